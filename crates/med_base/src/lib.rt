@@ -1,0 +1,25 @@
+//! The outside of the mediator, as traits with their meanings, and the names that every layer uses.
+//!
+//! `outside` has the traits. `memory` has versions that keep everything in memory and follow a script,
+//! and `files` has thin adapters over real files and streams.
+#![tactic(auto)]
+
+mod bookkeeping;
+mod files;
+mod member;
+mod memory;
+mod names;
+mod outside;
+mod status;
+
+pub use files::{FileOpener, FileShelf, FileSource, StdSink};
+pub use member::{MemberFault, MemberState};
+pub use memory::{MemOpener, MemShelf, MemSink, MemSource, Script, Site, Stored, Turn};
+pub use names::{GroupName, MemberName, Name};
+pub use outside::{
+    FETCHED_MOST, FetchFault, OpenFault, Opener, OutsideFault, Pull, Shelf, Sink, SinkFault, Source,
+};
+pub use status::{Part, ShelfFile, Status};
+
+#[cfg(test)]
+mod tests;
