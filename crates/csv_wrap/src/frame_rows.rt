@@ -1,0 +1,86 @@
+//! What one frame gives: the header, a row, or a fault.
+
+ghost use Rattle.std.specs.Prelude.{◌≡◌, ◌≤◌, length, Some, IfOk};
+ghost use Rattle.csv.specs.Records.{fields_of};
+ghost use Rattle.csv_wrap.specs.Rows.{Reading, frame_then, header_then, record_then, read_then};
+
+use crate::fields::{named_count, row_of};
+use crate::records::record_of;
+use csv::ByteRecord;
+use med_base::MemberFault;
+use med_prelude::ReadFault;
+use std::alloc::{AllocError, Global};
+use tuple_core::{Column, Row};
+
+/// What a frame is to the columns of a relation.
+#[derive(Drop)]
+pub enum FrameRead {
+    Header,
+    Row(Row),
+    Bad(MemberFault),
+}
+
+fn read_header(columns: &[Column], fields: &ByteRecord) -> FrameRead
+    requires { length columns.now ≤ 64 }
+    ensures { (more : Reading) → header_then columns.now (Some (fields_of fields.now)) more ≡ read_then result more }
+{
+    let found = named_count(columns, fields);
+    if found == columns.len() && fields.len() == columns.len() {
+        FrameRead::Header
+    } else {
+        FrameRead::Bad(MemberFault::Header {
+            found: found as u32,
+        })
+    }
+}
+
+fn read_row(
+    alloc: Global,
+    columns: &[Column],
+    number: u64,
+    fields: &ByteRecord,
+) -> Result<FrameRead, AllocError>
+    requires { length columns.now ≤ 64 }
+    ensures { IfOk result (λ read. (more : Reading) → record_then number columns.now (Some (fields_of fields.now)) more ≡ read_then read more) }
+{
+    if fields.len() != columns.len() {
+        return Ok(FrameRead::Bad(MemberFault::BadRecord { k: number }));
+    }
+    match row_of(alloc, columns, fields) {
+        Ok(row) => Ok(FrameRead::Row(row)),
+        Err(ReadFault::Broken(column)) => Ok(FrameRead::Bad(MemberFault::BadField {
+            k: number,
+            column,
+        })),
+        Err(ReadFault::NoMemory) => Err(AllocError),
+    }
+}
+
+/// What the frame of that number gives; the one of number 0 is the header.
+pub fn read_frame(
+    alloc: Global,
+    columns: &[Column],
+    number: u64,
+    frame: &[u8],
+) -> Result<FrameRead, AllocError>
+    requires { length columns.now ≤ 64 }
+    ensures { IfOk result (λ read. (more : Reading) → frame_then number columns.now frame.now more ≡ read_then read more) }
+{
+    let record = record_of(alloc, frame)?;
+    match record {
+        Some(record) => {
+            if number == 0 {
+                Ok(read_header(columns, &record))
+            } else {
+                read_row(alloc, columns, number, &record)
+            }
+        }
+        None => {
+            if number == 0 {
+                Ok(FrameRead::Bad(MemberFault::Header { found: 0 }))
+            } else {
+                Ok(FrameRead::Bad(MemberFault::BadRecord { k: number }))
+            }
+        }
+    }
+}
