@@ -1,0 +1,11 @@
+pub mod AcceptedLaws
+pub mod CatalogueLaws
+pub mod Colons
+pub mod FetchLaws
+pub mod LoadLaws
+pub mod OutcomeLaws
+pub mod QueryLaws
+pub mod RowTextLaws
+pub mod Tables
+pub mod TokenLaws
+pub mod WritingLaws

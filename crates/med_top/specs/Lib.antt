@@ -1,0 +1,12 @@
+pub mod Catalogue
+pub mod Command
+pub mod Entries
+pub mod Loading
+pub mod Mirrors
+pub mod Outcomes
+pub mod Pulling
+pub mod Query
+pub mod Relations
+pub mod Running
+pub mod Tokens
+pub mod Writing
