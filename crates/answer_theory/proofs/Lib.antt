@@ -1,0 +1,16 @@
+pub mod Bags
+pub mod Numbers
+pub mod Bools
+pub mod Lists
+pub mod Bindings
+pub mod Solutions
+pub mod Trees
+pub mod Orders
+pub mod Choices
+pub mod Pairs
+pub mod Rows
+pub mod Fragments
+pub mod Tests
+pub mod Held
+pub mod Sorted
+pub mod Examples
