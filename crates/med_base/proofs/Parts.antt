@@ -12,3 +12,7 @@ take_seam a b xs =
 pub take_copied : (a n : ℕ) (xs piece room : List ℕ) → piece ≡ take n (drop a xs) → length piece ≡ n → take (a + n) xs ≡ take a xs ++ take n (piece ++ room)
 take_copied a n xs piece room copied long =
     take_seam a n xs ∙ ap (λ more. take a xs ++ more) (sym copied ∙ sym (take_at piece room n long))
+
+-- such a piece alone
+pub take_filled : (a n : ℕ) (xs piece room : List ℕ) → piece ≡ take n (drop a xs) → length piece ≡ n → take n (piece ++ room) ≡ take n (drop a xs)
+take_filled a n xs piece room copied long = take_at piece room n long ∙ copied

@@ -1,5 +1,5 @@
--- The texts of a shelf in memory.
-use Rattle.std.specs.Prelude.{ℕ, Bool, List, Option, option_map, find}
+-- The texts of a shelf and of a calm opener in memory.
+use Rattle.std.specs.Prelude.{ℕ, Bool, List, [], Option, Some, option_map, unwrap_or, find}
 use Rattle.std.specs.Str.{bytes_eq}
 use Rattle.med_base.specs.declared.memory.shelf.Stored.{Stored}
 
@@ -9,3 +9,7 @@ is_named name stored = bytes_eq stored.name name
 -- the text of the first entry of that name
 abbrev pub text_named : List Stored → List ℕ → Option (List ℕ)
 text_named texts name = option_map (λ stored. stored.bytes.items) (find (is_named name) texts)
+
+-- every location has a text: that of its first entry, or none at all
+abbrev pub text_or_empty : List Stored → List ℕ → Option (List ℕ)
+text_or_empty texts location = Some (unwrap_or (text_named texts location) [])

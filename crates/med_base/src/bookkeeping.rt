@@ -1,10 +1,11 @@
 //! What every outside object counts and keeps of its calls.
 
-ghost use Rattle.std.specs.Prelude.{◌≡◌, ◌+◌, ◌≤◌, ◌↔◌, min, [], ◌∷◌, ◌++◌, OnOk, OnErr};
+ghost use Rattle.std.specs.Prelude.{◌≡◌, ◌+◌, ◌<◌, ◌≤◌, ◌↔◌, min, [], ◌∷◌, ◌++◌, Some, OnOk, OnErr, IfOk, IfErr};
 ghost use Rattle.std.specs.IoError.{error_kind};
 ghost use Rattle.med_prelude.specs.Counts.{Rose, greatest_count};
+ghost use Rattle.med_base.specs.Clocks.{risen_after};
 
-use crate::outside::OutsideFault;
+use crate::outside::{OutsideFault, SpillFault};
 use med_prelude::{Listed, Text, raise};
 use std::alloc::{AllocError, Global};
 use std::io::{Error, ErrorKind};
@@ -37,5 +38,38 @@ pub fn fault_of(error: Error, faults: &mut u64) -> OutsideFault
     match error.kind() {
         ErrorKind::OutOfMemory => OutsideFault::NoMemory,
         _ => counted_fault(faults),
+    }
+}
+
+/// The length of a spill file after an append of `need` bytes, or that it has no place for them.
+pub fn end_within(len: u64, need: u64, limit: u64) -> Result<u64, SpillFault>
+    ensures end { IfOk result (λ end. end ≡ len + need) }
+    ensures fits { OnOk result (len + need ≤ limit) }
+    ensures full { IfErr result (λ fault. fault ≡ SpillFault.Full need limit) }
+    ensures exceeds { OnErr result (limit < len + need) }
+{
+    match len.checked_add(need) {
+        Some(end) if end <= limit => Ok(end),
+        _ => Err(SpillFault::Full { need, limit }),
+    }
+}
+
+/// What a clock keeps of its readings.
+#[derive(Clone, Copy, Debug)]
+pub struct Readings {
+    pub last: Option<u64>,
+    pub risen: u64,
+}
+
+impl Readings {
+    pub fn note(&mut self, reading: u64)
+        ensures last { self.new.last ≡ Some reading }
+        ensures risen { self.new.risen ≡ risen_after self.old.last reading self.old.risen }
+        ensures rises { self.old.risen ≤ self.new.risen }
+    {
+        if let Some(last) = self.last {
+            self.risen = self.risen.saturating_add(reading.saturating_sub(last));
+        }
+        self.last = Some(reading);
     }
 }

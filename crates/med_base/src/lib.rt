@@ -12,12 +12,16 @@ mod names;
 mod outside;
 mod status;
 
-pub use files::{FileOpener, FileShelf, FileSource, StdSink};
+pub use files::{FileOpener, FileShelf, FileSource, FileSpill, FileSpills, RealClock, StdSink};
 pub use member::{MemberFault, MemberState};
-pub use memory::{MemOpener, MemShelf, MemSink, MemSource, Script, Site, Stored, Turn};
+pub use memory::{
+    CalmOpener, CalmSource, CalmSpill, CalmSpills, MemOpener, MemShelf, MemSink, MemSource,
+    MemSpill, MemSpills, NoGate, Script, ScriptClock, Site, SpillScript, Stored, Turn,
+};
 pub use names::{GroupName, MemberName, Name};
 pub use outside::{
-    FETCHED_MOST, FetchFault, OpenFault, Opener, OutsideFault, Pull, Shelf, Sink, SinkFault, Source,
+    Clock, FETCHED_MOST, FetchFault, Files, Gate, OpenFault, Opener, OutsideFault, Pull, Shelf,
+    Sink, SinkFault, Source, Spill, SpillFault, SpillSet,
 };
 pub use status::{Part, ShelfFile, Status};
 

@@ -6,15 +6,21 @@
 ghost use Rattle.std.specs.Prelude.{◌≡◌};
 ghost use Rattle.med_base.specs.declared.outside.OutsideFault.TheVariants.{NoMemory};
 
+mod clock;
+mod gate;
 mod opener;
 mod shelf;
 mod sink;
 mod source;
+mod spill;
 
+pub use clock::Clock;
+pub use gate::Gate;
 pub use opener::Opener;
 pub use shelf::{FETCHED_MOST, Shelf};
 pub use sink::Sink;
 pub use source::{Pull, Source};
+pub use spill::{Files, Spill, SpillFault, SpillSet};
 use std::alloc::{AllocError, AllocFailed};
 use thiserror::Error;
 

@@ -1,14 +1,17 @@
 //! Each outside object on its happy path, and what its script or its file makes it answer.
 
 use crate::{
-    FETCHED_MOST, FileOpener, FileShelf, MemOpener, MemShelf, MemSink, MemSource, Opener,
-    OutsideFault, Pull, Script, Shelf, Sink, Site, Source, StdSink, Stored, Turn,
+    CalmOpener, Clock, FETCHED_MOST, FileOpener, FileShelf, Gate, MemOpener, MemShelf, MemSink,
+    MemSource, NoGate, Opener, OutsideFault, Pull, RealClock, Script, Shelf, Sink, Site, Source,
+    StdSink, Stored, Turn,
 };
 use med_prelude::Text;
 use std::alloc::{AllocError, Global};
 use std::path::PathBuf;
 use std::test::Fail;
 use std::{env, fs, io, process};
+
+mod spills;
 
 fn stored(alloc: Global, name: &str, bytes: &[u8]) -> Result<Stored, AllocError> {
     Ok(Stored {
@@ -91,6 +94,22 @@ fn opener_in_memory(rt: HostRuntime) -> Result<(), Fail> {
 }
 
 #[test]
+fn calm_opener_gives_the_empty_text_where_it_has_none(rt: HostRuntime) -> Result<(), Fail> {
+    let alloc = rt.alloc();
+    let mut opener = CalmOpener::new(alloc, vec![in alloc; stored(alloc, "here", b"abcde")?]?);
+    let mut empty = opener.open_at(alloc, "there")?;
+    assert_eq!(rt; empty.pull(&mut [0; 3]), Pull::End);
+    assert_eq!(rt; opener.asked().len(), 1);
+    let mut whole = opener.open_at(alloc, "here")?;
+    let mut room = [0u8; 3];
+    for answer in [Pull::Bytes(3), Pull::Bytes(2), Pull::End] {
+        assert_eq!(rt; whole.pull(&mut room), answer);
+    }
+    assert_eq!(rt; &room, b"dec");
+    Ok(())
+}
+
+#[test]
 fn sink_in_memory_takes_pieces(rt: HostRuntime) -> Result<(), Fail> {
     let alloc = rt.alloc();
     let mut sink = MemSink::new(alloc, 2, vec![in alloc; 1]?);
@@ -158,5 +177,15 @@ fn sink_over_a_file(rt: HostRuntime) -> Result<(), Fail> {
     let text = fs::read_to_string(&rt, path.as_path())?;
     fs::remove_file(&rt, path.as_path())?;
     assert_eq!(rt; text.as_str(), "abc");
+    Ok(())
+}
+
+#[test]
+fn real_clock_rests(rt: HostRuntime) -> Result<(), Fail> {
+    let mut clock = RealClock::new(&rt);
+    let before = clock.now();
+    clock.rest(20);
+    NoGate.pass(0);
+    assert!(rt; before.saturating_add(20) <= clock.now());
     Ok(())
 }

@@ -11,7 +11,7 @@ use med_prelude::{Listed, Text};
 use std::alloc::{AllocError, Global};
 
 /// The most bytes of a text that can be opened.
-const TEXT_MOST: usize = 1 << 62;
+pub const TEXT_MOST: usize = 1 << 62;
 
 /// A location with its text, and how a source there behaves.
 #[derive(Debug, Drop)]

@@ -68,7 +68,8 @@ impl Shelf for MemShelf {
     }
 }
 
-fn stored_at<'a>(texts: &'a [Stored], name: &str) -> Option<&'a Stored>
+/// The first entry of that name.
+pub fn stored_at<'a>(texts: &'a [Stored], name: &str) -> Option<&'a Stored>
     ensures { option_copied result ≡ find (is_named name.now) texts.now }
 {
     texts.iter().find(|stored| stored.name.as_str() == name)

@@ -95,7 +95,7 @@ impl Source for MemSource {
 
 /// Copies bytes of the text from a place on to the start of the room, and answers how many: at most `most`,
 /// but one at least where there are any and the room isn't empty.
-fn copy_from(text: &[u8], place: usize, most: usize, room: &mut [u8]) -> usize
+pub fn copy_from(text: &[u8], place: usize, most: usize, room: &mut [u8]) -> usize
     requires { place ≤ length text.now }
     ensures fits { result ≤ length room.old }
     ensures within { place + result ≤ length text.now }

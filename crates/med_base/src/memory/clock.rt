@@ -1,0 +1,86 @@
+//! A clock that follows a script.
+
+ghost use Rattle.std.specs.Prelude.{◌≡◌, ◌-◌, min, length, None, slice_get, unwrap_or};
+
+use crate::bookkeeping::Readings;
+use crate::outside::Clock;
+
+/// A clock with a list of readings, of which the last one stands for ever. Resting takes no time.
+#[derive(Debug, Drop)]
+pub struct ScriptClock {
+    script: Vec<u64>,
+    calls: usize,
+    readings: Readings,
+}
+
+impl ScriptClock {
+    /// A clock with these readings; with none it reads 0.
+    pub fn new(script: Vec<u64>) -> Self
+        ensures last { ⟦<ScriptClock as Clock>⟧.last result ≡ None }
+        ensures risen { ⟦<ScriptClock as Clock>⟧.risen result ≡ 0 }
+    {
+        ScriptClock {
+            script,
+            calls: 0,
+            readings: Readings {
+                last: None,
+                risen: 0,
+            },
+        }
+    }
+
+    /// The reading of the call of that number, counted from 0.
+    fn reading(&self, number: usize) -> u64
+        ensures { result ≡ unwrap_or (slice_get self.now.script.items (min number (length self.now.script.items - 1))) 0 }
+    {
+        let last = self.script.len().saturating_sub(1);
+        self.script.get(number.min(last)).copied().unwrap_or(0)
+    }
+}
+
+impl Clock for ScriptClock {
+    ghost last = { λ c. c.readings.last };
+
+    ghost risen = { λ c. c.readings.risen };
+
+    fn now(&mut self) -> u64 {
+        let reading = self.reading(self.calls);
+        self.calls = self.calls.saturating_add(1);
+        self.readings.note(reading);
+        reading
+    }
+
+    fn rest(&mut self, _ms: u32) {}
+}
+
+#[cfg(test)]
+mod tests {
+    use super::*;
+    use std::test::Fail;
+
+    #[test]
+    fn falls_are_not_taken_off_what_rose(rt: HostRuntime) -> Result<(), Fail> {
+        let mut clock = ScriptClock::new(vec![in rt.alloc(); 10, 4, 9]?);
+        assert_eq!(rt; clock.readings.last, None);
+        let steps = [(10, 0), (4, 0), (9, 5), (9, 5)];
+        for (reading, risen) in steps {
+            assert_eq!(rt; clock.now(), reading);
+            assert_eq!(rt; clock.readings.risen, risen);
+            clock.rest(7);
+            assert_eq!(rt; clock.readings.last, Some(reading));
+        }
+        Ok(())
+    }
+
+    #[test]
+    fn what_rose_stands_still_at_its_end(rt: HostRuntime) -> Result<(), Fail> {
+        let mut clock = ScriptClock::new(vec![in rt.alloc(); 0, u64::MAX, 1, 3]?);
+        for _ in 0..4 {
+            clock.now();
+        }
+        assert_eq!(rt; clock.readings.risen, u64::MAX);
+        let mut empty = ScriptClock::new(vec![in rt.alloc()]?);
+        assert_eq!(rt; empty.now(), 0);
+        Ok(())
+    }
+}
