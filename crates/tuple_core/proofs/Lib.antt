@@ -1,0 +1,5 @@
+pub mod Back
+pub mod Numerals
+pub mod Sound
+pub mod ValueByValue
+pub mod Weighing

@@ -1,5 +1,9 @@
+pub mod Comparing
+pub mod Decoding
 pub mod Distinct
+pub mod Encoding
 pub mod Order
+pub mod Parsing
 pub mod RowText
 pub mod Values
 pub use Rattle.med_prelude.specs.Texts

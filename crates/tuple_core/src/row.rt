@@ -34,6 +34,9 @@ impl Row {
     /// The most values of a row.
     pub const MOST_VALUES: usize = 64;
 
+    /// The most bytes of a row's encoding.
+    pub const GREATEST_WEIGHT: u64 = 4_194_625;
+
     pub fn new(values: Vec<Value>) -> Self
         requires { FitsRow values.items }
         ensures { result ≡ values.items }
