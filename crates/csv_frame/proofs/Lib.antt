@@ -1,0 +1,4 @@
+pub mod CutLaws
+pub mod MarkLaws
+pub mod FindLaws
+pub mod HoldLaws
