@@ -1,3 +1,6 @@
-pub mod CutLaws
+pub mod AheadLaws
 pub mod FieldLaws
+pub mod FrameCount
 pub mod RowLaws
+pub mod VerdictLaws
+pub mod WrapLaws

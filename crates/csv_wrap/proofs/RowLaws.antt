@@ -6,7 +6,8 @@ use Rattle.med_prelude.specs.Reading.{with_front}
 use Rattle.med_base.specs.declared.member.MemberFault.{MemberFault}
 use Rattle.tuple_core.specs.declared.columns.Column.{Column}
 use Rattle.tuple_core.specs.declared.value.Value.{Value}
-use Rattle.csv_wrap.specs.Rows.{Reading, before, field_value, frame_then, named_count, read_frames, read_then, values_from}
+use Rattle.tuple_core.specs.Parsing.{parsed}
+use Rattle.csv_wrap.specs.Rows.{Reading, before, frame_then, named_count, read_frames, read_then, values_from}
 use Rattle.csv_wrap.specs.declared.frame_rows.FrameRead.{FrameRead}
 
 with_front_twice : {P : Type 0} (front xs : List Value) (r : Result (List Value) P) → with_front front (with_front xs r) ≡ with_front (front ++ xs) r
@@ -15,13 +16,13 @@ with_front_twice front xs (Err place) = refl
 
 -- a field that spells a value puts it behind those before it
 pub value_next : (place : ℕ) (column : Column) (columns : List Column) (field : List ℕ) (fields : List (List ℕ)) (front : List Value) (v : Value)
-    → field_value column.kind field ≡ Some v
+    → parsed column.kind field ≡ Some v
     → with_front front (values_from place (column ∷ columns) (field ∷ fields)) ≡ with_front (front ++ v ∷ []) (values_from (place + 1) columns fields)
 value_next place column columns field fields front v e = rw e (with_front_twice front (v ∷ []) (values_from (place + 1) columns fields))
 
 -- one that spells none is the broken place
 pub value_broken : (place : ℕ) (column : Column) (columns : List Column) (field : List ℕ) (fields : List (List ℕ)) (front : List Value)
-    → field_value column.kind field ≡ None
+    → parsed column.kind field ≡ None
     → with_front front (values_from place (column ∷ columns) (field ∷ fields)) ≡ Err place
 value_broken place column columns field fields front e = rw e refl
 

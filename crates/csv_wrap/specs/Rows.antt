@@ -1,27 +1,19 @@
 -- The rows and the verdict of a source.
-use Rattle.std.specs.Prelude.{ℕ, suc, ◌==◌, ◌+◌, ◌&&◌, nat_le, Bool, List, [], ◌∷◌, ◌++◌, length, Option, Some, None, Result, Ok, Err, if◌then◌else◌}
+use Rattle.std.specs.Prelude.{ℕ, suc, ◌==◌, ◌+◌, ◌&&◌, Bool, List, [], ◌∷◌, ◌++◌, length, Option, Some, None, Result, Ok, Err, if◌then◌else◌}
 use Rattle.std.specs.List.{zip}
-use Rattle.std.specs.Str.{is_utf8}
 use Rattle.std.specs.Cmp.Lexicographic.{pointwise}
 use Rattle.std.specs.Prelude.{nat_eq}
 use Rattle.med_base.specs.declared.member.MemberFault.{MemberFault}
 use Rattle.med_base.specs.declared.member.MemberFault.TheVariants as fault
 use Rattle.med_prelude.specs.Reading.{or_at, read_each}
 use Rattle.tuple_core.specs.declared.columns.Column.{Column}
-use Rattle.tuple_core.specs.declared.columns.Kind.{Kind}
-use Rattle.tuple_core.specs.declared.columns.Kind.TheVariants as kind
 use Rattle.tuple_core.specs.declared.value.Value.{Value}
-use Rattle.tuple_core.specs.declared.value.Value.TheVariants as value
-use Rattle.csv_wrap.specs.Frames.{frames, good_record}
+use Rattle.tuple_core.specs.Parsing.{parsed}
+use Rattle.csv_frame.specs.Frames.{frames}
+use Rattle.csv_runs.specs.Records.{good_record}
 use Rattle.csv_wrap.specs.declared.frame_rows.FrameRead.{FrameRead}
 use Rattle.csv_wrap.specs.declared.frame_rows.FrameRead.TheVariants as read
 use Rattle.csv_wrap.specs.declared.reading.SourceRows.{SourceRows}
-
--- The value that a field of a column spells. Integers and truth values aren't read yet.
-abbrev pub field_value : Kind → List ℕ → Option Value
-field_value kind.Text bytes = if is_utf8 bytes && nat_le (length bytes) 65536 then Some (value.Text bytes) else None
-field_value kind.Int bytes = None
-field_value kind.Bool bytes = None
 
 -- what the frames give: the rows before the first bad one, and its fault; None is a clean verdict
 pub record Reading : Type 0 where
@@ -50,7 +42,7 @@ is_header columns fields = (named_count columns fields == length columns) && (le
 
 -- each field's value, or the first column, counted from a place on, whose field has none
 abbrev pub values_from : ℕ → List Column → List (List ℕ) → Result (List Value) ℕ
-values_from place columns fields = read_each (λ place (pair : Column × List ℕ). or_at place (field_value pair.0.kind pair.1)) place (zip columns fields)
+values_from place columns fields = read_each (λ place (pair : Column × List ℕ). or_at place (parsed pair.0.kind pair.1)) place (zip columns fields)
 
 abbrev pub values_of : List Column → List (List ℕ) → Result (List Value) ℕ
 values_of = values_from 0
@@ -70,10 +62,13 @@ record_then k columns None more = fails (fault.BadRecord k)
 record_then k columns (Some fields) more =
     if length fields == length columns then row_then k (values_of columns fields) more else fails (fault.BadRecord k)
 
--- frame k, of which the first is the header, and what comes after it
+-- the record of frame k, of which the first is the header, and what comes after it
+abbrev pub fields_then : ℕ → List Column → Option (List (List ℕ)) → Reading → Reading
+fields_then k columns found more = if k == 0 then header_then columns found more else record_then k columns found more
+
+-- frame k, and what comes after it
 abbrev pub frame_then : ℕ → List Column → List ℕ → Reading → Reading
-frame_then k columns frame more =
-    if k == 0 then header_then columns (good_record frame) more else record_then k columns (good_record frame) more
+frame_then k columns frame more = fields_then k columns (good_record frame) more
 
 -- what frames from number k on read as; a text that has ended without a header is bad
 abbrev pub read_frames : ℕ → List Column → List (Option (List ℕ)) → Bool → Reading

@@ -1,15 +1,14 @@
 //! The values that the fields of a record spell.
 
-ghost use Rattle.std.specs.Prelude.{◌≡◌, ◌+◌, ◌<◌, ◌≤◌, ◌∷◌, length, drop, IfOk, IfSome};
+ghost use Rattle.std.specs.Prelude.{◌≡◌, ◌+◌, ◌<◌, ◌≤◌, ◌∷◌, length, drop};
 ghost use Rattle.csv.specs.Records.{fields_of};
-ghost use Rattle.csv_wrap.specs.Rows.{field_value, named_count, values_of};
+ghost use Rattle.csv_wrap.specs.Rows.{named_count, values_of};
 ghost use Rattle.med_prelude.specs.Reading.{Gives};
-ghost use Rattle.tuple_core.specs.Values.{FitsValue};
 
 use csv::ByteRecord;
 use med_prelude::ReadFault;
-use std::alloc::{AllocError, Global};
-use tuple_core::{Column, Kind, Row, Text, Value};
+use std::alloc::Global;
+use tuple_core::{Column, Row, parse_value};
 
 /// The field at a place that is there.
 fn field_at(fields: &ByteRecord, place: usize) -> &[u8]
@@ -38,18 +37,6 @@ pub fn named_count(columns: &[Column], fields: &ByteRecord) -> usize
     columns.len()
 }
 
-fn value_of(alloc: Global, kind: Kind, field: &[u8]) -> Result<Option<Value>, AllocError>
-    ensures value { IfOk result (λ value. value ≡ field_value kind field.now) }
-    ensures fits { IfOk result (λ value. IfSome value FitsValue) }
-{
-    match kind {
-        Kind::Text if field.len() <= Value::LONGEST_TEXT => {
-            Ok(Text::from_utf8(alloc, field)?.map(Value::Text))
-        }
-        Kind::Text | Kind::Int | Kind::Bool => Ok(None),
-    }
-}
-
 /// The row of a record that has a field for each column; where it is broken, the first column whose field
 /// has no value.
 pub fn row_of(alloc: Global, columns: &[Column], fields: &ByteRecord) -> Result<Row, ReadFault<u32>>
@@ -59,7 +46,7 @@ pub fn row_of(alloc: Global, columns: &[Column], fields: &ByteRecord) -> Result<
 {
     let mut values = Vec::new(alloc);
     for (place, column) in columns.iter().enumerate() {
-        let value = value_of(alloc, column.kind, field_at(fields, place)).map_err(
+        let value = parse_value(alloc, column.kind, field_at(fields, place)).map_err(
             |_| ReadFault::NoMemory,
         )?;
         match value {

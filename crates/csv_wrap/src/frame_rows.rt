@@ -1,12 +1,13 @@
 //! What one frame gives: the header, a row, or a fault.
 
-ghost use Rattle.std.specs.Prelude.{◌≡◌, ◌≤◌, length, Some, IfOk};
+ghost use Rattle.std.specs.Prelude.{◌≡◌, ◌≤◌, List, length, Some, None, IfOk};
 ghost use Rattle.csv.specs.Records.{fields_of};
-ghost use Rattle.csv_wrap.specs.Rows.{Reading, frame_then, header_then, record_then, read_then};
+ghost use Rattle.tuple_core.specs.declared.columns.Column.{Column};
+ghost use Rattle.csv_wrap.specs.Rows.{Reading, fields_then, frame_then, header_then, record_then, read_then};
 
 use crate::fields::{named_count, row_of};
-use crate::records::record_of;
 use csv::ByteRecord;
+use csv_runs::record_of;
 use med_base::MemberFault;
 use med_prelude::ReadFault;
 use std::alloc::{AllocError, Global};
@@ -56,7 +57,34 @@ fn read_row(
     }
 }
 
-/// What the frame of that number gives; the one of number 0 is the header.
+/// What the record of the frame of that number gives; the one of number 0 is the header.
+pub fn read_record(
+    alloc: Global,
+    columns: &[Column],
+    number: u64,
+    fields: &ByteRecord,
+) -> Result<FrameRead, AllocError>
+    requires { length columns.now ≤ 64 }
+    ensures { IfOk result (λ read. (more : Reading) → fields_then number columns.now (Some (fields_of fields.now)) more ≡ read_then read more) }
+{
+    if number == 0 {
+        Ok(read_header(columns, fields))
+    } else {
+        read_row(alloc, columns, number, fields)
+    }
+}
+
+fn no_record(number: u64) -> FrameRead
+    ensures { (columns : List Column) (more : Reading) → fields_then number columns None more ≡ read_then result more }
+{
+    if number == 0 {
+        FrameRead::Bad(MemberFault::Header { found: 0 })
+    } else {
+        FrameRead::Bad(MemberFault::BadRecord { k: number })
+    }
+}
+
+/// What the frame of that number gives, read alone.
 pub fn read_frame(
     alloc: Global,
     columns: &[Column],
@@ -66,21 +94,8 @@ pub fn read_frame(
     requires { length columns.now ≤ 64 }
     ensures { IfOk result (λ read. (more : Reading) → frame_then number columns.now frame.now more ≡ read_then read more) }
 {
-    let record = record_of(alloc, frame)?;
-    match record {
-        Some(record) => {
-            if number == 0 {
-                Ok(read_header(columns, &record))
-            } else {
-                read_row(alloc, columns, number, &record)
-            }
-        }
-        None => {
-            if number == 0 {
-                Ok(FrameRead::Bad(MemberFault::Header { found: 0 }))
-            } else {
-                Ok(FrameRead::Bad(MemberFault::BadRecord { k: number }))
-            }
-        }
+    match record_of(alloc, frame)? {
+        Some(record) => read_record(alloc, columns, number, &record),
+        None => Ok(no_record(number)),
     }
 }

@@ -1,13 +1,18 @@
 //! The rows of a source, read from its bytes, and how a member ends.
 #![tactic(auto)]
 
+mod ahead;
+mod copying;
 mod fields;
 mod frame_rows;
-mod frames;
 mod members;
 mod reading;
-mod records;
+mod run_rows;
+mod wrapper;
 
-pub use frames::LONGEST_FRAME;
 pub use members::{MemberEnd, Members};
 pub use reading::{SourceRows, read_rows};
+pub use wrapper::{NextRow, Pulled, Wrapper};
+
+#[cfg(test)]
+mod tests;

@@ -4,7 +4,7 @@ ghost use Rattle.std.specs.Prelude.{◌≡◌, ◌≤◌, length, Some, IfOk};
 ghost use Rattle.csv_wrap.specs.Rows.{reading, reading_of};
 
 use crate::frame_rows::{FrameRead, read_frame};
-use crate::frames::{FrameStep, next_frame};
+use csv_frame::{FirstFrame, first_frame};
 use med_base::MemberFault;
 use std::alloc::{AllocError, Global};
 use tuple_core::{Columns, Row};
@@ -17,7 +17,7 @@ pub struct SourceRows {
 }
 
 /// Reads the bytes of a source of these columns, whose header is frame 0. Only bytes that have ended have a
-/// last line without a line feed, or lack a header for good.
+/// last frame without a line feed, or lack a header for good.
 pub fn read_rows(
     alloc: Global,
     columns: &Columns,
@@ -32,8 +32,8 @@ pub fn read_rows(
     let mut rest = bytes;
     let mut number = 0u64;
     loop {
-        match next_frame(rest, ended) {
-            FrameStep::Frame { frame, rest: after } => {
+        match first_frame(rest, ended) {
+            FirstFrame::Frame { frame, rest: after } => {
                 match read_frame(alloc, columns, number, frame)? {
                     FrameRead::Header => {}
                     FrameRead::Row(row) => rows.push(row)?,
@@ -42,8 +42,8 @@ pub fn read_rows(
                 rest = after;
                 number += 1;
             }
-            FrameStep::TooLong => return Ok(bad(rows, MemberFault::TooLong { k: number })),
-            FrameStep::Nothing => {
+            FirstFrame::TooLong => return Ok(bad(rows, MemberFault::TooLong { k: number })),
+            FirstFrame::Nothing => {
                 if ended && number == 0 {
                     return Ok(bad(rows, MemberFault::Header { found: 0 }));
                 }

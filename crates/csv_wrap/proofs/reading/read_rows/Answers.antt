@@ -1,5 +1,5 @@
 use Rattle.std.proofs.Common.{◌+◌, [], ◌∷◌, Some, arith, sym, ap, ◌∙◌}
-use Rattle.csv_wrap.specs.Frames.{frames}
+use Rattle.csv_frame.specs.Frames.{frames}
 use Rattle.csv_wrap.specs.Rows.{before, read_frames, read_then, reading}
 use Rattle.csv_wrap.proofs.RowLaws.{before_twice, before_fault, frame_read}
 use Rattle.csv_wrap.proofs.reading.read_rows.Goals as goal

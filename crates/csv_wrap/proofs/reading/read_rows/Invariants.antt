@@ -1,5 +1,5 @@
 use Rattle.std.proofs.Common.{◌≡◌, ◌+◌, ◌≤◌, length}
-use Rattle.csv_wrap.specs.Frames.{frames}
+use Rattle.csv_frame.specs.Frames.{frames}
 use Rattle.csv_wrap.specs.Rows.{before, read_frames, reading}
 use Rattle.csv_wrap.proofs.reading.read_rows.Given as goal
 

@@ -1,0 +1,98 @@
+-- Frames that are read ahead: what is still to be given stays.
+use Rattle.std.proofs.Common.{◌≡◌, ◌+◌, ◌≤◌, ℕ, Bool, List, [], ◌∷◌, ◌++◌, length, drop, Option, Some, None, arith, refl, sym, ap, ◌∙◌, length-drop, append-nil, ◌&&◌, ◌==◌, true, false, if◌then◌else◌}
+use Rattle.med_base.specs.declared.member.MemberFault.{MemberFault}
+use Rattle.med_base.specs.declared.member.MemberFault.TheVariants as fault
+use Rattle.tuple_core.specs.declared.columns.Column.{Column}
+use Rattle.tuple_core.specs.declared.value.Value.{Value}
+use Rattle.csv_frame.specs.Frames.{frames, kept}
+use Rattle.csv_frame.specs.Cuts.{GoesOn, IsTooLong}
+use Rattle.csv_frame.specs.Holding.{Gives, Held, HoldsNone, IsAtHand, spanned}
+use Rattle.csv_frame.specs.declared.find.Span.{Span}
+use Rattle.csv_wrap.specs.Rows.{Reading, before, frame_then, read_frames, read_then, clean, fails}
+use Rattle.csv_wrap.specs.Ahead.{Ahead, KeepsFuture, ReadsFrames, unless_bad, HoldsNothing, future}
+use Rattle.csv_wrap.specs.declared.frame_rows.FrameRead.{FrameRead}
+
+-- so many bytes are read, which are these frames
+pub frames_kept : (read : List (Option (List ℕ))) (old new : Ahead) (count : ℕ)
+    → ReadsFrames old.columns read old.rows old.number new.rows new.bad new.number
+    → ((more : List ℕ) (ended : Bool) → GoesOn old.framed.ended more ended → frames (old.framed.rest ++ more) ended ≡ read ++ frames (drop count old.framed.rest ++ more) ended)
+    → old.bad ≡ None → new.columns ≡ old.columns → count ≤ length old.framed.rest → length new.rows + old.number ≤ length old.rows + new.number
+    → new.framed.rest ≡ drop count old.framed.rest → new.framed.at ≡ old.framed.at + count → new.framed.ended ≡ old.framed.ended
+    → KeepsFuture old new
+frames_kept read old new count reads splits good same inside counted rest at told = record {
+  columns = same;
+  ended = told;
+  bytes = rw (rest, at) (omega (arith, length-drop count old.framed.rest));
+  counted = counted;
+  same = λ more ended goes.
+      ap (λ (b : Option MemberFault). before old.rows (unless_bad b (read_frames old.number old.columns (frames (old.framed.rest ++ more) ended) ended))) good
+      ∙ ap (λ (fs : List (Option (List ℕ))). before old.rows (read_frames old.number old.columns fs ended)) (splits more ended goes)
+      ∙ reads (frames (drop count old.framed.rest ++ more) ended) ended
+      ∙ ap (λ (cs : List Column). before new.rows (unless_bad new.bad (read_frames new.number cs (frames (drop count old.framed.rest ++ more) ended) ended))) (sym same)
+      ∙ ap (λ (bs : List ℕ). before new.rows (unless_bad new.bad (read_frames new.number new.columns (frames (bs ++ more) ended) ended))) (sym rest);
+}
+
+-- rows that are as before
+pub rows_kept : (old : Ahead) (rows : List (List Value)) → rows ≡ old.rows → KeepsFuture old (record old { rows = rows })
+rows_kept old rows e = record {
+  columns = refl;
+  ended = refl;
+  bytes = refl;
+  counted = rw e (omega arith);
+  same = λ more ended goes. ap (λ (rs : List (List Value)). before rs (unless_bad old.bad (read_frames old.number old.columns (frames (old.framed.rest ++ more) ended) ended))) (sym e);
+}
+
+-- a frame at hand, or one that is too long, is held
+pub hand_held : (held : Held) (span : Span) (count : ℕ) → IsAtHand held span count → HoldsNone held → ⊥
+hand_held held span count hand none =
+    let first = ap (λ (bs : List ℕ). frames bs held.ended) (sym (append-nil held.rest)) ∙ hand.first [] held.ended (λ t. (refl, t)) in
+    let clash : [] ≡ Some (spanned held span) ∷ frames (drop count held.rest ++ []) held.ended = sym none ∙ first in cc
+
+pub long_held : (held : Held) → IsTooLong held.rest → HoldsNone held → ⊥
+long_held held long none =
+    let first = ap (λ (bs : List ℕ). frames bs held.ended) (sym (append-nil held.rest)) ∙ ap kept (long.1 [] held.ended) in
+    let clash : [] ≡ None ∷ [] = sym none ∙ first in cc
+
+-- what was passed leaves nothing held where nothing was
+pub none_stays : (old new : Held) → Gives old [] new → new.ended ≡ old.ended → HoldsNone old → HoldsNone new
+none_stays old new gives ended none =
+    let same : frames (old.rest ++ []) old.ended ≡ frames (new.rest ++ []) old.ended = gives [] old.ended (λ t. (refl, t)) in
+    rw ended (ap (λ (bs : List ℕ). frames bs old.ended) (sym (append-nil new.rest)) ∙ sym same ∙ ap (λ (bs : List ℕ). frames bs old.ended) (append-nil old.rest) ∙ none)
+
+-- what one frame gave
+pub frame_put : (columns : List Column) (frame : List ℕ) (old rows : List (List Value)) (number : ℕ) (read : FrameRead) (bad : Option MemberFault)
+    → ((more : Reading) → frame_then number columns frame more ≡ read_then read more)
+    → ((more : Reading) → before old (read_then read more) ≡ before rows (unless_bad bad more))
+    → ReadsFrames columns (Some frame ∷ []) old number rows bad (number + 1)
+frame_put columns frame old rows number read bad gives put later ended =
+    ap (before old) (gives (read_frames (number + 1) columns later ended)) ∙ put (read_frames (number + 1) columns later ended)
+
+-- one step after the other
+pub kept_on : (old mid new : Ahead) → KeepsFuture old mid → KeepsFuture mid new → KeepsFuture old new
+kept_on old mid new a b = record {
+  columns = b.columns ∙ a.columns;
+  ended = b.ended ∙ a.ended;
+  bytes = b.bytes ∙ a.bytes;
+  counted = omega (arith, a.counted, b.counted);
+  same = λ more ended goes. a.same more ended goes ∙ b.same more ended (λ t. goes (sym a.ended ∙ t));
+}
+
+no_rows : (n : ℕ) (columns : List Column) (ended : Bool) → (read_frames n columns [] ended).rows ≡ []
+no_rows n columns ended =
+    elim (ended && (n == 0)) as (λ (b : Bool). (if b then fails (fault.Header 0) else clean).rows ≡ []) [ true ↦ refl | false ↦ refl ]
+
+front_none : (front rest : List (List Value)) → front ++ rest ≡ [] → front ≡ []
+front_none [] rest e = refl
+front_none (row ∷ front) rest e = cc
+
+-- where nothing is held no row is read
+pub none_read : (old new : Ahead) → KeepsFuture old new → HoldsNothing old → new.rows ≡ []
+none_read old new keeps h =
+    let ended = old.framed.ended in
+    let none : frames (old.framed.rest ++ []) ended ≡ [] = ap (λ (bs : List ℕ). frames bs ended) (append-nil old.framed.rest) ∙ h.frames in
+    let was : (future old [] ended).rows ≡ [] =
+    ap (λ (rs : List (List Value)). (before rs (unless_bad old.bad (read_frames old.number old.columns (frames (old.framed.rest ++ []) ended) ended))).rows) h.rows
+    ∙ ap (λ (b : Option MemberFault). (unless_bad b (read_frames old.number old.columns (frames (old.framed.rest ++ []) ended) ended)).rows) h.bad
+    ∙ ap (λ (fs : List (Option (List ℕ))). (read_frames old.number old.columns fs ended).rows) none ∙ no_rows old.number old.columns ended in
+    let is = sym (ap (λ (r : Reading). r.rows) (keeps.same [] ended (λ t. (refl, t)))) ∙ was in
+    front_none new.rows (unless_bad new.bad (read_frames new.number new.columns (frames (new.framed.rest ++ []) ended) ended)).rows is
