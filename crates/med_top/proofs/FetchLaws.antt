@@ -4,12 +4,15 @@ use Rattle.std.specs.Prelude.{nat_le}
 use Rattle.std.proofs.lemmas.Bool.{leb-true}
 use Rattle.std.proofs.lemmas.Bool.Decides.{nat_tests}
 use Rattle.std.proofs.lemmas.List.{take_all, length-take-le}
+use Rattle.cat_reader.specs.Catalogue.{catalogue_of, of_no_relation}
+use Rattle.cat_reader.specs.declared.catalogue.Relation.{Relation}
 use Rattle.med_base.specs.Outside.{IsFetched}
-use Rattle.med_top.specs.Loading.{SaysCatalogue, SaysQuery, mirror_in}
-use Rattle.med_top.specs.Query.{asks_column}
-use Rattle.med_top.specs.declared.load.CatalogueFault.{CatalogueFault}
-use Rattle.med_top.specs.declared.load.CatalogueFault.TheVariants as fault
-use Rattle.med_top.specs.declared.mirror.Mirror.{Mirror}
+use Rattle.med_prelude.specs.declared.reading.Refusal.{Refusal}
+use Rattle.med_top.specs.Loading.{SaysCatalogue, SaysQuery}
+use Rattle.med_top.specs.Query.{asked_by}
+use Rattle.med_top.specs.Targets.{target_in}
+use Rattle.med_top.specs.declared.target.Target.{Target}
+use Rattle.med_top.specs.declared.target.TargetFault.{TargetFault}
 
 above : (a b : ℕ) → nat_le a b ≡ false → b < a
 above a b e = grind (arith, nat_tests)
@@ -24,29 +27,32 @@ cut_sizes text false e =
     let long : 1048577 ≤ length text = omega (arith, above (length text) 1048576 e) in
     inr (e, rw (length-take-le 1048577 text long) refl)
 
-mirror_long : (text : List ℕ) → nat_le (length text) 1048576 ≡ false → mirror_in text ≡ Err fault.NotBuilt
-mirror_long text e = rw e refl
+catalogue_long : (text : List ℕ) → nat_le (length text) 1048576 ≡ false → catalogue_of text ≡ Err (of_no_relation 4)
+catalogue_long text e = rw e refl
 
-query_long : (relation text : List ℕ) → nat_le (length text) 1048576 ≡ false → asks_column relation text ≡ false
-query_long relation text e = rw e refl
+query_long : (text : List ℕ) → nat_le (length text) 1048576 ≡ false → asked_by text ≡ None
+query_long text e = rw e refl
 
-mirror_cut : (text : List ℕ) → mirror_in (take 1048577 text) ≡ mirror_in text
-mirror_cut text = elim (cut_sizes text (nat_le (length text) 1048576) refl) [
-  | inl same ↦ ap mirror_in same
-  | inr long ↦ mirror_long (take 1048577 text) long.1 ∙ sym (mirror_long text long.0)
+catalogue_cut : (text : List ℕ) → catalogue_of (take 1048577 text) ≡ catalogue_of text
+catalogue_cut text = elim (cut_sizes text (nat_le (length text) 1048576) refl) [
+  | inl same ↦ ap catalogue_of same
+  | inr long ↦ catalogue_long (take 1048577 text) long.1 ∙ sym (catalogue_long text long.0)
 ]
 
-query_cut : (relation text : List ℕ) → asks_column relation (take 1048577 text) ≡ asks_column relation text
-query_cut relation text = elim (cut_sizes text (nat_le (length text) 1048576) refl) [
-  | inl same ↦ ap (asks_column relation) same
-  | inr long ↦ query_long relation (take 1048577 text) long.1 ∙ sym (query_long relation text long.0)
+query_cut : (text : List ℕ) → asked_by (take 1048577 text) ≡ asked_by text
+query_cut text = elim (cut_sizes text (nat_le (length text) 1048576) refl) [
+  | inl same ↦ ap asked_by same
+  | inr long ↦ query_long (take 1048577 text) long.1 ∙ sym (query_long text long.0)
 ]
+
+target_by : (relations : List Relation) (text other : List ℕ) → asked_by text ≡ asked_by other → target_in relations text ≡ target_in relations other
+target_by relations text other same = rw same refl
 
 -- what the fetched bytes say, the text says
-pub catalogue_fetched : (told : Option (List ℕ)) (bytes : List ℕ) (says : Result Mirror CatalogueFault) → IsFetched told bytes → mirror_in bytes ≡ says → SaysCatalogue told says
+pub catalogue_fetched : (told : Option (List ℕ)) (bytes : List ℕ) (says : Result (List Relation) Refusal) → IsFetched told bytes → catalogue_of bytes ≡ says → SaysCatalogue told says
 catalogue_fetched None bytes says fetched e = tt
-catalogue_fetched (Some text) bytes says fetched e = sym (mirror_cut text) ∙ ap mirror_in (sym fetched.1) ∙ e
+catalogue_fetched (Some text) bytes says fetched e = sym (catalogue_cut text) ∙ ap catalogue_of (sym fetched.1) ∙ e
 
-pub query_fetched : (relation : List ℕ) (told : Option (List ℕ)) (bytes : List ℕ) (asks : Bool) → IsFetched told bytes → asks_column relation bytes ≡ asks → SaysQuery relation told asks
-query_fetched relation None bytes asks fetched e = tt
-query_fetched relation (Some text) bytes asks fetched e = sym (query_cut relation text) ∙ ap (asks_column relation) (sym fetched.1) ∙ e
+pub query_fetched : (relations : List Relation) (told : Option (List ℕ)) (bytes : List ℕ) (says : Result Target TargetFault) → IsFetched told bytes → target_in relations bytes ≡ says → SaysQuery relations told says
+query_fetched relations None bytes says fetched e = tt
+query_fetched relations (Some text) bytes says fetched e = target_by relations text (take 1048577 text) (sym (query_cut text)) ∙ ap (target_in relations) (sym fetched.1) ∙ e

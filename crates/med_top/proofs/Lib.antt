@@ -1,11 +1,10 @@
-pub mod AcceptedLaws
-pub mod CatalogueLaws
-pub mod Colons
 pub mod FetchLaws
 pub mod LoadLaws
+pub mod MemberLaws
 pub mod OutcomeLaws
 pub mod QueryLaws
 pub mod RowTextLaws
-pub mod Tables
+pub mod TakingLaws
+pub mod TargetLaws
 pub mod TokenLaws
 pub mod WritingLaws

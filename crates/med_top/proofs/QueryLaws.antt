@@ -1,20 +1,31 @@
--- The form that is built, call by call.
-use Rattle.std.proofs.Common.{◌≡◌, ℕ, ◌&&◌, nat_eq, Bool, false, List, [], ◌∷◌, Option, Some, refl}
-use Rattle.std.specs.Cmp.Lexicographic.{pointwise}
-use Rattle.med_top.specs.Query.{is_column_query, first_call}
+-- Names in parentheses, one name at a time.
+use Rattle.std.proofs.Common.{◌≡◌, ℕ, List, [], ◌∷◌, ◌++◌, Option, Some, None, option_map, append_assoc, ap, sym, ◌∙◌, refl}
+use Rattle.med_top.specs.Query.{first_name, names_in}
 use Rattle.med_top.specs.declared.query.token.Token.{Token}
-use Rattle.med_top.specs.declared.query.token.Token.TheVariants.{Name, Open, Close, If, Stop}
+use Rattle.med_top.specs.declared.query.token.Token.TheVariants.{Name, Close, Comma}
 
--- the body is this call, and nothing stands after its full stop
-abbrev pub ends_body : List ℕ → List ℕ → Option (List ℕ × List ℕ × Token × List Token) → Bool
-ends_body relation column (Some (name, argument, Stop, [])) = pointwise nat_eq column argument && pointwise nat_eq name relation
-ends_body relation column call = false
+-- what names read as, by the name and the token at their front
+abbrev pub names_by : Option (List ℕ × Token × List Token) → Option (List (List ℕ) × List Token)
+names_by (Some (name, Close, behind)) = names_in (Name name ∷ Close ∷ behind)
+names_by (Some (name, Comma, behind)) = names_in (Name name ∷ Comma ∷ behind)
+names_by found = None
 
--- the head is this call, and a body for its column comes after it
-abbrev pub ends_head : List ℕ → Option (List ℕ × List ℕ × Token × List Token) → Bool
-ends_head relation (Some (name, column, If, body)) = ends_body relation column (first_call body)
-ends_head relation call = false
+pub names_by_first : (tokens : List Token) → names_in tokens ≡ names_by (first_name tokens)
+names_by_first (Name name ∷ Close ∷ behind) = refl
+names_by_first (Name name ∷ Comma ∷ behind) = refl
+names_by_first tokens = refl
 
-pub column_query_by_calls : (relation : List ℕ) (tokens : List Token) → is_column_query relation tokens ≡ ends_head relation (first_call tokens)
-column_query_by_calls relation (Name n ∷ Open ∷ Name v ∷ Close ∷ If ∷ Name r ∷ Open ∷ Name w ∷ Close ∷ Stop ∷ []) = refl
-column_query_by_calls relation tokens = refl
+-- names that are read, behind others
+abbrev pub behind_front : List (List ℕ) → Option (List (List ℕ) × List Token) → Option (List (List ℕ) × List Token)
+behind_front front read = option_map (λ r. (front ++ r.0, r.1)) read
+
+fronted : (front : List (List ℕ)) (name : List ℕ) (read : Option (List (List ℕ) × List Token))
+    → behind_front (front ++ name ∷ []) read ≡ behind_front front (behind_front (name ∷ []) read)
+fronted front name None = refl
+fronted front name (Some (names, behind)) = rw (append_assoc front (name ∷ []) names) refl
+
+-- a name and a comma are read, and the names behind them are left
+pub names_further : (front : List (List ℕ)) (name : List ℕ) (rest behind : List Token) (all : Option (List (List ℕ) × List Token))
+    → Some (name, Comma, behind) ≡ first_name rest → behind_front front (names_in rest) ≡ all → behind_front (front ++ name ∷ []) (names_in behind) ≡ all
+names_further front name rest behind all first e =
+    fronted front name (names_in behind) ∙ ap (behind_front front) (ap names_by first ∙ sym (names_by_first rest)) ∙ e

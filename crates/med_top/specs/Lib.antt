@@ -1,12 +1,9 @@
-pub mod Catalogue
 pub mod Command
-pub mod Entries
 pub mod Loading
-pub mod Mirrors
+pub mod Members
 pub mod Outcomes
-pub mod Pulling
 pub mod Query
-pub mod Relations
-pub mod Running
+pub mod Taking
+pub mod Targets
 pub mod Tokens
 pub mod Writing

@@ -1,21 +1,22 @@
 //! The top call of the mediator: from the words of a command to the text of an answer.
 #![tactic(auto)]
 
-mod catalogue;
 mod command;
 mod finish;
+mod groups;
 mod load;
 mod mediating;
-mod mirror;
+mod member;
 mod outcome;
 mod output;
-mod pulling;
 mod query;
 mod row_text;
-mod run;
+mod taking;
+mod target;
 
 pub use mediating::mediate;
 pub use outcome::Outcome;
+pub use taking::IDLE_LIMIT;
 
 #[cfg(test)]
 mod tests;

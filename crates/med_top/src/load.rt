@@ -1,38 +1,27 @@
 //! Loads the catalogue and the query from the shelf.
 
 ghost use Rattle.std.specs.Prelude.{◌≡◌, ◌≤◌, IfOk};
+ghost use Rattle.cat_reader.specs.Accepted.{KeepsLimits};
+ghost use Rattle.med_top.specs.Targets.{IsTargetWithin};
 ghost use Rattle.med_prelude.specs.Counts.{Rose};
-ghost use Rattle.med_prelude.specs.Reading.{Gives};
-ghost use Rattle.med_top.specs.Mirrors.{HasOneColumn};
-ghost use Rattle.med_top.specs.Loading.{AsksLoad, FetchesMirror, FetchesQuery, IfShelfFault, Loads, AsksName, mirror_in};
+ghost use Rattle.med_top.specs.Loading.{AsksLoad, FetchesCatalogue, FetchesQuery, IfShelfFault, Loads, AsksName};
 
-use crate::catalogue::read_catalogue;
-use crate::mirror::{Mirror, one_mirror};
-use crate::query::asks_column;
+use crate::target::{Target, TargetFault, target_in};
+use cat_reader::{Catalogue, CatalogueFault, read_catalogue};
 use med_base::{FetchFault, Shelf, ShelfFile};
 use med_prelude::ReadFault;
 use std::alloc::Global;
 use thiserror::Error;
-
-/// What is wrong with a catalogue's text.
-#[derive(Clone, Copy, Debug, PartialEq, Eq)]
-pub enum CatalogueFault {
-    NotToml,
-    /// It isn't of the one form that is built so far.
-    NotBuilt,
-}
 
 /// Why the catalogue and the query gave nothing to run.
 #[derive(Clone, Copy, Debug, PartialEq, Eq, Error)]
 pub enum LoadFault {
     #[error("a text could not be fetched")]
     Shelf(ShelfFile),
-    #[error("the catalogue is not TOML")]
-    NotToml,
-    #[error("the catalogue is of no form that is built")]
-    CatalogueNotBuilt,
+    #[error("the catalogue is refused")]
+    Catalogue { why: u8, relation: u32, item: u32 },
     #[error("the query is of no form that is built")]
-    QueryNotBuilt,
+    NotBuilt(TargetFault),
     #[error("out of memory")]
     NoMemory,
 }
@@ -43,33 +32,45 @@ pub fn load<H: Shelf>(
     shelf: &mut H,
     catalogue: &str,
     query: &str,
-) -> Result<Mirror, LoadFault>
-    ensures column { IfOk result HasOneColumn }
+) -> Result<Target, LoadFault>
+    ensures within { IfOk result IsTargetWithin }
     ensures loads { Loads (H.told shelf.old catalogue.now) (H.told shelf.old query.now) result }
     ensures told { H.told shelf.new ≡ H.told shelf.old }
     ensures asked { AsksLoad catalogue.now query.now (H.asked shelf.old) (H.asked shelf.new) result }
     ensures faults { H.faults shelf.old ≤ H.faults shelf.new }
     ensures failed { IfShelfFault result (Rose (H.faults shelf.old) (H.faults shelf.new)) }
 {
-    let mirror = fetch_mirror(alloc, shelf, catalogue)?;
-    fetch_query(alloc, shelf, query, &mirror)?;
-    Ok(mirror)
+    let relations = fetch_catalogue(alloc, shelf, catalogue)?;
+    fetch_query(alloc, shelf, query, relations)
 }
 
-fn fetch_mirror<H: Shelf>(alloc: Global, shelf: &mut H, name: &str) -> Result<Mirror, LoadFault>
-    ensures column { IfOk result HasOneColumn }
-    ensures mirror { FetchesMirror (H.told shelf.old name.now) result }
+fn fetch_catalogue<H: Shelf>(
+    alloc: Global,
+    shelf: &mut H,
+    name: &str,
+) -> Result<Catalogue, LoadFault>
+    ensures limits { IfOk result KeepsLimits }
+    ensures catalogue { FetchesCatalogue (H.told shelf.old name.now) result }
     ensures told { H.told shelf.new ≡ H.told shelf.old }
     ensures asked { AsksName name.now (H.asked shelf.old) (H.asked shelf.new) result }
     ensures faults { H.faults shelf.old ≤ H.faults shelf.new }
     ensures failed { IfShelfFault result (Rose (H.faults shelf.old) (H.faults shelf.new)) }
 {
     match shelf.fetch(alloc, name) {
-        Ok(text) => match read_mirror(alloc, text.as_slice()) {
-            Ok(mirror) => Ok(mirror),
-            Err(ReadFault::Broken(CatalogueFault::NotToml)) => Err(LoadFault::NotToml),
-            Err(ReadFault::Broken(CatalogueFault::NotBuilt)) => Err(LoadFault::CatalogueNotBuilt),
-            Err(ReadFault::NoMemory) => Err(LoadFault::NoMemory),
+        Ok(text) => match read_catalogue(alloc, text.as_slice()) {
+            Ok(catalogue) => Ok(catalogue),
+            Err(
+                CatalogueFault::Refused {
+                    why,
+                    relation,
+                    item,
+                },
+            ) => Err(LoadFault::Catalogue {
+                why,
+                relation,
+                item,
+            }),
+            Err(CatalogueFault::NoMemory) => Err(LoadFault::NoMemory),
         },
         Err(FetchFault::Failed) => Err(LoadFault::Shelf(ShelfFile::Catalogue)),
         Err(FetchFault::NoMemory) => Err(LoadFault::NoMemory),
@@ -80,42 +81,23 @@ fn fetch_query<H: Shelf>(
     alloc: Global,
     shelf: &mut H,
     name: &str,
-    mirror: &Mirror,
-) -> Result<(), LoadFault>
-    ensures query { FetchesQuery mirror.now.relation (H.told shelf.old name.now) result }
+    relations: Catalogue,
+) -> Result<Target, LoadFault>
+    requires limits { KeepsLimits relations }
+    ensures within { IfOk result IsTargetWithin }
+    ensures query { FetchesQuery relations (H.told shelf.old name.now) result }
     ensures told { H.told shelf.new ≡ H.told shelf.old }
     ensures asked { AsksName name.now (H.asked shelf.old) (H.asked shelf.new) result }
     ensures faults { H.faults shelf.old ≤ H.faults shelf.new }
     ensures failed { IfShelfFault result (Rose (H.faults shelf.old) (H.faults shelf.new)) }
 {
     match shelf.fetch(alloc, name) {
-        Ok(text) => match asks_column(alloc, text.as_slice(), &mirror.relation) {
-            Ok(true) => Ok(()),
-            Ok(false) => Err(LoadFault::QueryNotBuilt),
-            Err(_) => Err(LoadFault::NoMemory),
+        Ok(text) => match target_in(alloc, relations, text.as_slice()) {
+            Ok(target) => Ok(target),
+            Err(ReadFault::Broken(fault)) => Err(LoadFault::NotBuilt(fault)),
+            Err(ReadFault::NoMemory) => Err(LoadFault::NoMemory),
         },
         Err(FetchFault::Failed) => Err(LoadFault::Shelf(ShelfFile::Query)),
         Err(FetchFault::NoMemory) => Err(LoadFault::NoMemory),
-    }
-}
-
-#[tactic(auto, using(crate::proofs::CatalogueLaws::mirror_by_reading))]
-fn read_mirror(alloc: Global, text: &[u8]) -> Result<Mirror, ReadFault<CatalogueFault>>
-    ensures mirror { Gives result (mirror_in text.now) }
-    ensures column { IfOk result HasOneColumn }
-{
-    match read_catalogue(alloc, text) {
-        Ok(catalogue) => match one_mirror(catalogue) {
-            Some(mirror) => Ok(mirror),
-            None => Err(ReadFault::Broken(CatalogueFault::NotBuilt)),
-        },
-        Err(ReadFault::Broken(refusal)) => {
-            if refusal.why == 1 {
-                Err(ReadFault::Broken(CatalogueFault::NotToml))
-            } else {
-                Err(ReadFault::Broken(CatalogueFault::NotBuilt))
-            }
-        }
-        Err(ReadFault::NoMemory) => Err(ReadFault::NoMemory),
     }
 }

@@ -1,34 +1,48 @@
 //! The call that the program makes.
 
-ghost use Rattle.std.specs.Prelude.{◌≡◌, ◌≢◌, ◌++◌, ℕ, List, Option};
+ghost use Rattle.std.specs.Prelude.{◌≡◌, ◌≢◌, ◌≤◌, ◌++◌, [], ℕ, List, Option};
+ghost use Rattle.med_top.specs.Targets.{IsTargetWithin};
 ghost use Rattle.csv_wrap.specs.Sound.{asked_locations, given_marks};
 ghost use Rattle.med_top.specs.Command.{names_of};
 ghost use Rattle.med_top.specs.Loading.{AsksSome};
-ghost use Rattle.med_top.specs.Mirrors.{HasOneColumn};
-ghost use Rattle.med_top.specs.Outcomes.{Accepts, Change, HoldsAt, status_of};
+ghost use Rattle.med_top.specs.Members.{Change};
+ghost use Rattle.med_top.specs.Outcomes.{Accepts, HoldsAt, status_of};
 
 use crate::command::run_command;
 use crate::finish::finish;
+use crate::groups::read_groups;
 use crate::load::{LoadFault, load};
-use crate::mirror::Mirror;
 use crate::outcome::Outcome;
-use crate::run::read_member;
-use csv_wrap::Members;
-use med_base::{Opener, Shelf, Sink, Status};
+use crate::target::{Target, TargetFault};
+use med_base::{Clock, Gate, Opener, Shelf, Sink, SpillSet, Status};
 use std::alloc::Global;
 use std::thread::Threads;
 use tuple_core::Words;
 
-/// Answers the words of a command: fetches the catalogue and the query, reads the mirror, and writes the
-/// distinct rows in their order. The runtime is that which `main` is given.
-pub fn mediate<R: Threads + Sync, H: Shelf, O: Opener, W: Sink>(
+/// Answers the words of a command: fetches the catalogue and the query, reads the groups of the relation that
+/// is asked for, and writes the distinct rows in their order. The runtime is that which `main` is given. Spill
+/// files, clock, gate and `err` aren't used yet.
+pub fn mediate<
+    R: Threads + Sync,
+    H: Shelf,
+    O: Opener,
+    P: SpillSet,
+    C: Clock,
+    W: Sink,
+    E: Sink,
+    G: Gate + Sync,
+>(
     _rt: &R,
     alloc: Global,
     words: &Words,
     shelf: &mut H,
     opener: &mut O,
+    _spills: &mut P,
+    _clock: &mut C,
+    _gate: &G,
     out: &mut W,
-) -> Outcome<O::S>
+    _err: &mut E,
+) -> Outcome<O::S, P::F>
     ensures outcome { HoldsAt (record {
       source = O.S.Source;
       words = words.now;
@@ -44,12 +58,16 @@ pub fn mediate<R: Threads + Sync, H: Shelf, O: Opener, W: Sink>(
     ensures asked { AsksSome (names_of words.now) (H.asked shelf.old) (H.asked shelf.new) }
     ensures opened { result.status ≢ Status.NoMemory → O.asked opener.new ≡ O.asked opener.old ++ asked_locations result.members }
     ensures given { result.status ≢ Status.NoMemory → O.given opener.new ≡ O.given opener.old ++ given_marks O.S.Source result.members }
+    ensures files { result.files ≡ [] }
+    ensures spills { P.asked _spills.new ≡ P.asked _spills.old }
+    ensures clock { C.last _clock.new ≡ C.last _clock.old }
+    ensures err { E.written _err.new ≡ E.written _err.old }
 {
     let Some((catalogue, query)) = run_command(words) else {
         return Outcome::without_run(alloc, Status::NotBuilt { why: 1 });
     };
     match load(alloc, shelf, catalogue, query) {
-        Ok(mirror) => answer(alloc, opener, out, mirror),
+        Ok(target) => answer(alloc, opener, out, &target),
         Err(fault) => Outcome::without_run(alloc, status_of(fault)),
     }
 }
@@ -59,27 +77,31 @@ fn status_of(fault: LoadFault) -> Status
 {
     match fault {
         LoadFault::Shelf(file) => Status::ShelfFault { file },
-        LoadFault::NotToml => Status::CatalogueRefused {
-            why: 1,
-            relation: 0,
-            item: 0,
+        LoadFault::Catalogue {
+            why,
+            relation,
+            item,
+        } => Status::CatalogueRefused {
+            why,
+            relation,
+            item,
         },
-        LoadFault::CatalogueNotBuilt => Status::NotBuilt { why: 2 },
-        LoadFault::QueryNotBuilt => Status::NotBuilt { why: 3 },
+        LoadFault::NotBuilt(TargetFault::Query) => Status::NotBuilt { why: 3 },
+        LoadFault::NotBuilt(TargetFault::Mirrors) => Status::NotBuilt { why: 4 },
         LoadFault::NoMemory => Status::NoMemory,
     }
 }
 
-/// Runs the mirror, and writes its rows.
-fn answer<O: Opener, W: Sink>(
+/// Reads the groups, and writes the rows.
+fn answer<O: Opener, F, W: Sink>(
     alloc: Global,
     opener: &mut O,
     out: &mut W,
-    mirror: Mirror,
-) -> Outcome<O::S>
-    requires { HasOneColumn mirror }
+    target: &Target,
+) -> Outcome<O::S, F>
+    requires { IsTargetWithin target.now }
     ensures outcome { (words : List (List ℕ)) (texts : List ℕ → Option (List ℕ)) (shelf_faults : Change ℕ) (shelf_asked : Change (List (List ℕ)))
-        → Accepts words texts mirror
+        → Accepts words texts target.now
         → HoldsAt (record {
           source = O.S.Source;
           words = words;
@@ -94,16 +116,13 @@ fn answer<O: Opener, W: Sink>(
         }) result.status }
     ensures opened { result.status ≢ Status.NoMemory → O.asked opener.new ≡ O.asked opener.old ++ asked_locations result.members }
     ensures given { result.status ≢ Status.NoMemory → O.given opener.new ≡ O.given opener.old ++ given_marks O.S.Source result.members }
+    ensures files { result.files ≡ [] }
 {
-    let Ok(ran) = read_member(alloc, opener, mirror) else {
-        return Outcome::without_run(alloc, Status::NoMemory);
-    };
-    let mut members = Members::new(alloc);
-    match members.push(ran.member) {
-        Ok(()) => Outcome {
-            status: finish(alloc, out, ran.answer),
-            members,
-        },
+    match read_groups(alloc, opener, target) {
+        Ok(read) => {
+            let status = finish(alloc, out, read.rows, read.end);
+            Outcome::without_files(alloc, status, read.members)
+        }
         Err(_) => Outcome::without_run(alloc, Status::NoMemory),
     }
 }

@@ -1,11 +1,12 @@
-//! The program `mediator`: makes the real shelf, opener and sink, and calls the mediator.
+//! The program `mediator`: makes the real objects of the outside, and calls the mediator.
 #![tactic(auto)]
 
-use med_base::{FileOpener, FileShelf, Status, StdSink};
+use med_base::{FileOpener, FileShelf, FileSpills, NoGate, RealClock, Sink, Status, StdSink};
 use med_top::mediate;
 use std::alloc::AllocError;
+use std::os::unix::fs::FileExt;
 use std::process::ExitCode;
-use std::rt::{Env, Files};
+use std::rt::{Clock, Env, Files};
 use std::thread::Threads;
 use std::{env, io};
 use tuple_core::{Text, Words};
@@ -25,19 +26,49 @@ fn words_of<R: Env + AllocGlobal>(rt: &R) -> Result<Words, AllocError> {
     Ok(words)
 }
 
-fn run<R: Threads + Sync + AllocGlobal + Env + Files + Print>(rt: &R) -> Status
+/// The folder of the system for temporary files, where spill files go.
+fn spill_folder<R: Env + AllocGlobal>(rt: &R) -> Result<Text, AllocError> {
+    match env::temp_dir(rt) {
+        Ok(folder) => Text::from_str(rt.alloc(), folder.as_path().as_str()),
+        Err(_) => Text::from_str(rt.alloc(), "/tmp"),
+    }
+}
+
+fn run<R: Threads + Sync + AllocGlobal + Env + Files + Clock + Print, E: Sink>(
+    rt: &R,
+    err: &mut E,
+) -> Status
 where
-    R::File: Send,
+    R::File: Send + FileExt,
 {
     let Ok(words) = words_of(rt) else {
         return Status::NoMemory;
     };
+    let Ok(folder) = spill_folder(rt) else {
+        return Status::NoMemory;
+    };
     let mut shelf = FileShelf::new(rt.alloc(), rt);
     let mut opener = FileOpener::new(rt.alloc(), rt);
+    let mut spills = FileSpills::new(rt.alloc(), rt, folder);
+    let mut clock = RealClock::new(rt);
     let mut out = StdSink::new(io::writer(rt));
-    mediate(rt, rt.alloc(), &words, &mut shelf, &mut opener, &mut out).status
+    mediate(
+        rt,
+        rt.alloc(),
+        &words,
+        &mut shelf,
+        &mut opener,
+        &mut spills,
+        &mut clock,
+        &NoGate,
+        &mut out,
+        err,
+    )
+    .status
 }
 
 fn main(rt: HostRuntime) -> ExitCode {
-    ExitCode::from(run(&rt).code())
+    let stderr = rt.stderr();
+    let mut err = StdSink::new(io::writer(&stderr));
+    ExitCode::from(run(&rt, &mut err).code())
 }

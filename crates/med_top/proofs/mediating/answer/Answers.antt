@@ -1,7 +1,7 @@
 use Rattle.med_top.proofs.OutcomeLaws.{finished}
 use Rattle.med_top.proofs.mediating.answer.Goals as goal
 
-pub returns-in-Ok-push-clause-outcome : goal.returns-in-Ok-push-clause-outcome
-returns-in-Ok-push-clause-outcome g c = λ words texts shelf_faults shelf_asked accepts.
-    finished _ c.args.mirror c.in-Ok.ran.member accepts (rw c.new-members.ensures at c.in-Ok-push.ensures.ok)
-    c.in-Ok.ensures.reads c.in-Ok.ensures.opening c.in-Ok.ran.answer c.finish.result c.in-Ok.ensures.answer c.finish.ensures
+pub returns-in-Ok-clause-outcome : goal.returns-in-Ok-clause-outcome
+returns-in-Ok-clause-outcome g c = λ words texts shelf_faults shelf_asked accepts.
+    rw (c.without_files.ensures.members, c.without_files.ensures.status)
+    (finished _ c.args.target.now accepts c.in-Ok.ensures.members c.in-Ok.read.rows.items c.in-Ok.read.end c.finish-status.result c.in-Ok.ensures.ends c.finish-status.ensures)

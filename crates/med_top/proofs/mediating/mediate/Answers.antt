@@ -7,12 +7,11 @@ returns-in-Ok-clause-outcome g c = c.answer.ensures.outcome _ _ _ _ (record {
   catalogue = c.in-Some.catalogue.now;
   query = c.in-Some.query.now;
   command = sym c.in-Some.ensures;
-  has_mirror = c.in-Ok.ensures.loads.0;
-  asks = c.in-Ok.ensures.loads.1;
+  loads = c.in-Ok.ensures.loads;
 })
 
 pub returns-in-Ok-clause-asked : goal.returns-in-Ok-clause-asked
-returns-in-Ok-clause-asked g c = load_asked _ _ c.args.words.now _ _ (Ok c.in-Ok.mirror) (sym c.in-Some.ensures) c.in-Ok.ensures.asked
+returns-in-Ok-clause-asked g c = load_asked _ _ c.args.words.now _ _ (Ok c.in-Ok.target) (sym c.in-Some.ensures) c.in-Ok.ensures.asked
 
 pub returns-in-Err-clause-asked : goal.returns-in-Err-clause-asked
 returns-in-Err-clause-asked g c = load_asked _ _ c.args.words.now _ _ (Err c.in-Err.fault) (sym c.in-Some.ensures) c.in-Err.ensures.asked

@@ -1,5 +1,0 @@
-use Rattle.med_top.proofs.Colons.{split_at_colon}
-use Rattle.med_top.proofs.catalogue.columns.parts_of.Goals as goal
-
-pub returns : goal.returns
-returns c = split_at_colon c.args.text.now _ c.rsplit_once.ensures.cases
