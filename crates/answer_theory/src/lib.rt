@@ -20,5 +20,5 @@ pub use order_laws::{leaves_grow, leaves_reordered, plans_give_solutions};
 pub use pair_laws::{joined_are_pairs, one_pair_more, pairs_grow, pairs_parted};
 pub use row_laws::{rows_glue, rows_meet, rows_over};
 pub use tree_laws::{
-    fragments_expand, joins_of_solutions, rest_of_solutions, trees_give_solutions,
+    fragments_expand, joins_of_solutions, rest_of_solutions, tests_read, trees_give_solutions,
 };

@@ -3,3 +3,4 @@ pub mod Numerals
 pub mod Sound
 pub mod ValueByValue
 pub mod Weighing
+pub mod Keyed

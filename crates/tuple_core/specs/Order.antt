@@ -52,7 +52,7 @@ pub rows_po : IsPartialOrder row_eq (λ xs ys. Some (row_cmp xs ys))
 rows_po = partial_order_from_agreeing_total row_cmp rows_total (λ x y. refl) rows_tie
 
 -- the test of values tells them apart
-values_same : (x y : Value) → value_eq x y ≡ true → x ≡ y
+pub values_same : (x y : Value) → value_eq x y ≡ true → x ≡ y
 values_same (value.Int x) (value.Int y) e = ap value.Int ((Decides-int_eq x y).0 e)
 values_same (value.Int x) (value.Text y) e = absurd (false≢true e)
 values_same (value.Int x) (value.Bool y) e = absurd (false≢true e)
@@ -63,7 +63,7 @@ values_same (value.Bool x) (value.Int y) e = absurd (false≢true e)
 values_same (value.Bool x) (value.Text y) e = absurd (false≢true e)
 values_same (value.Bool x) (value.Bool y) e = ap value.Bool ((booleans_Decides x y).0 e)
 
-value_itself : (x : Value) → value_eq x x ≡ true
+pub value_itself : (x : Value) → value_eq x x ≡ true
 value_itself x = equal_laws.laws-law.refl x
 
 -- the test of rows tells them apart

@@ -39,7 +39,7 @@ pub fn weight(row: &Row) -> u64
 }
 
 // Appends bytes for which there is room.
-fn put(bytes: &[u8], into: &mut Vec<u8>)
+pub(crate) fn put(bytes: &[u8], into: &mut Vec<u8>)
     requires { vec_len into.old + length bytes.now ≤ vec_capacity into.old }
     ensures items { into.new.items ≡ into.old.items ++ bytes.now }
     ensures len { vec_len into.new ≡ vec_len into.old + length bytes.now }
@@ -73,7 +73,7 @@ fn put_text(bytes: &[u8], into: &mut Vec<u8>)
     put(bytes, into);
 }
 
-fn put_value(value: &Value, into: &mut Vec<u8>)
+pub(crate) fn put_value(value: &Value, into: &mut Vec<u8>)
     requires fits { FitsValue value.now }
     requires room { vec_len into.old + value_weight value.now ≤ vec_capacity into.old }
     ensures items { into.new.items ≡ into.old.items ++ value_encoding value.now }

@@ -1,0 +1,7 @@
+pub mod Places
+pub mod Repeats
+pub mod Walks
+pub mod Preparing
+pub mod Gathering
+pub mod Keys
+pub mod Telling

@@ -1,0 +1,4 @@
+pub mod Patterns
+pub mod Prepared
+pub mod Filters
+pub mod Shapes

@@ -1,0 +1,49 @@
+-- What a row binds of an atom's variables.
+use Rattle.std.specs.Prelude.{ℕ, ◌≤◌, Bool, true, cond, ◌==◌, ◌&&◌, List, [], ◌∷◌, length, Option, Some, None}
+use Rattle.std.specs.List.{position}
+use Rattle.answer_theory.specs.Bindings.{Binding, consistent, firsts}
+use Rattle.answer_theory.specs.Rows.{values, each_once, AreDistinct}
+use Rattle.tuple_core.specs.Order.{value_eq}
+use Rattle.tuple_core.specs.declared.value.Value.{Value}
+use Rattle.row_match.specs.declared.pattern.Term.{Term}
+use Rattle.row_match.specs.declared.pattern.Term.TheVariants as term
+
+-- at most 64 variables, each once
+pub record FitsVars (vs : List ℕ) : Type 0 where
+  pub distinct : AreDistinct vs
+  pub short : length vs ≤ 64
+
+-- where the variable stands
+abbrev pub place_of : List ℕ → ℕ → Option ℕ
+place_of us v = position (λ u. u == v) us
+
+-- two values join where they are equal
+abbrev pub values_join : Value → Value → Bool
+values_join = value_eq
+
+-- each constant joins with its column's value
+abbrev pub fits : List Term → List Value → Bool
+fits [] row = true
+fits (t ∷ ts) [] = true
+fits (term.Constant c ∷ ts) (x ∷ row) = values_join x c && fits ts row
+fits (term.Variable v ∷ ts) (x ∷ row) = fits ts row
+
+-- each variable with its column's value
+abbrev pub places_of : List Term → List Value → Binding Value
+places_of [] row = []
+places_of (t ∷ ts) [] = []
+places_of (term.Constant c ∷ ts) (x ∷ row) = places_of ts row
+places_of (term.Variable v ∷ ts) (x ∷ row) = (v, x) ∷ places_of ts row
+
+abbrev pub term_variables : List Term → List ℕ
+term_variables [] = []
+term_variables (term.Constant c ∷ ts) = term_variables ts
+term_variables (term.Variable v ∷ ts) = v ∷ term_variables ts
+
+-- the variables in the order of their first occurrence
+abbrev pub pattern_variables : List Term → List ℕ
+pattern_variables terms = each_once (term_variables terms)
+
+-- The values of the variables, where each constant fits and each two places of one variable agree.
+abbrev pub matched : List Term → List Value → Option (List Value)
+matched terms row = cond (fits terms row && consistent values_join (places_of terms row)) (Some (values (firsts (places_of terms row)))) None

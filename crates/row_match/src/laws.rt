@@ -1,0 +1,27 @@
+//! The laws of matched rows and of keys, for callers' proofs.
+
+ghost use Rattle.std.specs.Prelude.{◌≡◌, List, Some, true, length};
+ghost use Rattle.answer_theory.specs.Bindings.{firsts, meet};
+ghost use Rattle.answer_theory.specs.Rows.{over, AreDistinct};
+ghost use Rattle.tuple_core.specs.Encoding.{row_encoding};
+ghost use Rattle.tuple_core.specs.Values.{FitsRow};
+ghost use Rattle.tuple_core.specs.declared.value.Value.{Value as AValue};
+ghost use Rattle.row_match.specs.Patterns.{matched, places_of, pattern_variables, values_join};
+ghost use Rattle.row_match.specs.Shapes.{Shape, key_row};
+ghost use Rattle.row_match.specs.declared.pattern.Term.{Term as ATerm};
+ghost use Rattle.row_match.specs.declared.shape.Side.TheVariants as side;
+
+/// A matched row binds the first places of the atom's variables.
+pub fn matched_rows_bind()
+    ensures { (terms : List ATerm) (row r : List AValue) → length row ≡ length terms → matched terms row ≡ Some r
+        → over (pattern_variables terms) r ≡ firsts (places_of terms row) }
+{}
+
+/// Rows have equal keys exactly where they meet.
+pub fn keys_tell()
+    ensures equal { (s : Shape) (l r : List AValue) → AreDistinct s.left → AreDistinct s.right → length l ≡ length s.left → length r ≡ length s.right
+        → meet values_join (over s.left l) (over s.right r) ≡ true → row_encoding (key_row side.Left s l) ≡ row_encoding (key_row side.Right s r) }
+    ensures meet { (s : Shape) (l r : List AValue) → AreDistinct s.left → AreDistinct s.right → length l ≡ length s.left → length r ≡ length s.right
+        → FitsRow l → FitsRow r
+        → row_encoding (key_row side.Left s l) ≡ row_encoding (key_row side.Right s r) → meet values_join (over s.left l) (over s.right r) ≡ true }
+{}

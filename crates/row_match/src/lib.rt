@@ -1,0 +1,18 @@
+//! How a row is matched with an atom, tested, and joined with another row.
+#![tactic(auto)]
+
+mod copying;
+mod filter;
+mod laws;
+mod matching;
+mod pattern;
+mod shape;
+#[cfg(test)]
+mod tests;
+mod vars;
+
+pub use filter::{Comparison, Filter};
+pub use laws::{keys_tell, matched_rows_bind};
+pub use pattern::{Pattern, Term};
+pub use shape::{JoinShape, Side};
+pub use vars::Vars;
