@@ -1,9 +1,15 @@
+//! Rows matched, tested and joined, with expected values by hand.
+
+ghost use Rattle.std.specs.Prelude.{◌≡◌, IfOk, length};
+
 use super::*;
 use std::alloc::{AllocError, Global};
 use std::test::Fail;
 use tuple_core::{KeyRoom, Op, Row, Value};
 
-fn numbers(alloc: Global, first: i64, second: i64, third: i64) -> Result<Row, AllocError> {
+fn numbers(alloc: Global, first: i64, second: i64, third: i64) -> Result<Row, AllocError>
+    ensures { IfOk result (λ row. length row ≡ 3) }
+{
     Ok(Row::new(vec![in alloc; Value::Int(first), Value::Int(second), Value::Int(third)]?))
 }
 
@@ -37,7 +43,16 @@ fn keeps_values_in_the_order_of_first_occurrence(rt: HostRuntime) -> Result<(), 
     Ok(())
 }
 
-fn holds(alloc: Global, op: Op, first: Value, second: Value) -> Result<bool, Fail> {
+fn pair(alloc: Global, first: i64, second: i64) -> Result<Row, AllocError>
+    ensures { IfOk result (λ row. length row ≡ 2) }
+{
+    Ok(Row::new(vec![in alloc; Value::Int(first), Value::Int(second)]?))
+}
+
+/// Whether the second value compares so with the first.
+fn holds(alloc: Global, op: Op, row: &Row) -> Result<bool, AllocError>
+    requires { length row.now ≡ 2 }
+{
     let vars = Vars::new(vec![in alloc; 3, 1]?);
     let comparison = Comparison {
         left: Term::Variable(1),
@@ -45,23 +60,25 @@ fn holds(alloc: Global, op: Op, first: Value, second: Value) -> Result<bool, Fai
         right: Term::Variable(3),
     };
     let filter = Filter::new(vars, vec![in alloc; comparison]?);
-    Ok(filter.holds(&Row::new(vec![in alloc; first, second]?)))
+    Ok(filter.holds(row))
 }
 
 // The variables stand in the other order than the comparison's sides.
 #[test]
 fn compares_two_variables(rt: HostRuntime) -> Result<(), Fail> {
-    assert!(rt; holds(rt.alloc(), Op::Lt, Value::Int(2), Value::Int(1))?);
-    assert!(rt; !holds(rt.alloc(), Op::Lt, Value::Int(1), Value::Int(2))?);
-    assert!(rt; !holds(rt.alloc(), Op::Lt, Value::Int(2), Value::Int(2))?);
-    assert!(rt; holds(rt.alloc(), Op::Le, Value::Int(2), Value::Int(2))?);
+    let alloc = rt.alloc();
+    assert!(rt; holds(alloc, Op::Lt, &pair(alloc, 2, 1)?)?);
+    assert!(rt; !holds(alloc, Op::Lt, &pair(alloc, 1, 2)?)?);
+    assert!(rt; !holds(alloc, Op::Lt, &pair(alloc, 2, 2)?)?);
+    assert!(rt; holds(alloc, Op::Le, &pair(alloc, 2, 2)?)?);
     Ok(())
 }
 
 #[test]
 fn no_operator_holds_between_kinds(rt: HostRuntime) -> Result<(), Fail> {
+    let row = Row::new(vec![in rt.alloc(); Value::Int(1), Value::Bool(true)]?);
     for op in [Op::Eq, Op::Ne, Op::Lt, Op::Le, Op::Gt, Op::Ge] {
-        assert!(rt; !holds(rt.alloc(), op, Value::Int(1), Value::Bool(true))?);
+        assert!(rt; !holds(rt.alloc(), op, &row)?);
     }
     Ok(())
 }
