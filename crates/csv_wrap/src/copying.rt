@@ -5,7 +5,8 @@ ghost use Rattle.std.specs.Prelude.{◌≡◌, IfOk};
 use std::alloc::{AllocError, Global};
 use tuple_core::{Column, Columns, Text};
 
-pub fn copied(alloc: Global, columns: &Columns) -> Result<Columns, AllocError>
+/// A copy of the columns.
+pub fn copy_columns(alloc: Global, columns: &Columns) -> Result<Columns, AllocError>
     ensures { IfOk result (λ copy. copy ≡ columns.now) }
 {
     let mut copies = Vec::new(alloc);

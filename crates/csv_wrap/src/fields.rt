@@ -44,7 +44,7 @@ pub fn row_of(alloc: Global, columns: &[Column], fields: &ByteRecord) -> Result<
     requires short { length columns.now ≤ 64 }
     ensures { Gives result (values_of columns.now (fields_of fields.now)) }
 {
-    let mut values = Vec::new(alloc);
+    let mut values = Vec::with_capacity(alloc, columns.len()).map_err(|_| ReadFault::NoMemory)?;
     for (place, column) in columns.iter().enumerate() {
         let value = parse_value(alloc, column.kind, field_at(fields, place)).map_err(
             |_| ReadFault::NoMemory,

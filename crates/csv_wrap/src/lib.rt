@@ -10,6 +10,7 @@ mod reading;
 mod run_rows;
 mod wrapper;
 
+pub use copying::copy_columns;
 pub use members::{MemberEnd, Members};
 pub use reading::{SourceRows, read_rows};
 pub use wrapper::{NextRow, Pulled, Wrapper};

@@ -8,7 +8,7 @@ ghost use Rattle.csv_wrap.specs.Ahead.{HoldsNothing, IsReadAhead, KeepsFuture};
 ghost use Rattle.csv_wrap.specs.Wrapped.{CameAs, HasGiven, IsEnd, IsLast, IsNext, IsPulled, IsWrapped, MayPull, SameSource, SoundAs, StaysNext, StaysPulled, Wrapped, fault_of, row_of};
 
 use crate::ahead::{AtEnd, ReadAhead};
-use crate::copying::copied;
+use crate::copying::copy_columns;
 use med_base::{MemberFault, Pull, Source};
 use std::alloc::{AllocError, Global};
 use std::marker::Model;
@@ -82,7 +82,7 @@ impl<S: Source> Wrapper<S> {
         ensures nothing { IfOk result (λ w. HoldsNothing w.ahead × (fault_of w ≡ None) × (w.kept ≡ [])) }
         ensures gave { IfOk result (λ w. HasGiven S.Source w []) }
     {
-        let columns = copied(alloc, columns)?;
+        let columns = copy_columns(alloc, columns)?;
         let room = vec![in alloc; 0u8; PULLED_MOST]?;
         Ok(Wrapper {
             source,

@@ -8,11 +8,12 @@ use Rattle.cat_reader.specs.Catalogue.{catalogue_of, of_no_relation}
 use Rattle.cat_reader.specs.declared.catalogue.Relation.{Relation}
 use Rattle.med_base.specs.Outside.{IsFetched}
 use Rattle.med_prelude.specs.declared.reading.Refusal.{Refusal}
+use Rattle.query_reader.specs.Reading.{query_of}
+use Rattle.text_reading.specs.Checks.{broken_at}
 use Rattle.med_top.specs.Loading.{SaysCatalogue, SaysQuery}
-use Rattle.med_top.specs.Query.{asked_by}
-use Rattle.med_top.specs.Targets.{target_in}
-use Rattle.med_top.specs.declared.target.Target.{Target}
-use Rattle.med_top.specs.declared.target.TargetFault.{TargetFault}
+use Rattle.med_top.specs.Tasks.{task_in}
+use Rattle.med_top.specs.declared.task.Task.{Task}
+use Rattle.med_top.specs.declared.task.TaskFault.{TaskFault}
 
 above : (a b : ℕ) → nat_le a b ≡ false → b < a
 above a b e = grind (arith, nat_tests)
@@ -30,8 +31,8 @@ cut_sizes text false e =
 catalogue_long : (text : List ℕ) → nat_le (length text) 1048576 ≡ false → catalogue_of text ≡ Err (of_no_relation 4)
 catalogue_long text e = rw e refl
 
-query_long : (text : List ℕ) → nat_le (length text) 1048576 ≡ false → asked_by text ≡ None
-query_long text e = rw e refl
+query_long : (relations : List Relation) (text : List ℕ) → nat_le (length text) 1048576 ≡ false → query_of text relations ≡ Err (broken_at 7 1048576)
+query_long relations text e = rw e refl
 
 catalogue_cut : (text : List ℕ) → catalogue_of (take 1048577 text) ≡ catalogue_of text
 catalogue_cut text = elim (cut_sizes text (nat_le (length text) 1048576) refl) [
@@ -39,20 +40,20 @@ catalogue_cut text = elim (cut_sizes text (nat_le (length text) 1048576) refl) [
   | inr long ↦ catalogue_long (take 1048577 text) long.1 ∙ sym (catalogue_long text long.0)
 ]
 
-query_cut : (text : List ℕ) → asked_by (take 1048577 text) ≡ asked_by text
-query_cut text = elim (cut_sizes text (nat_le (length text) 1048576) refl) [
-  | inl same ↦ ap asked_by same
-  | inr long ↦ query_long (take 1048577 text) long.1 ∙ sym (query_long text long.0)
+query_cut : (relations : List Relation) (text : List ℕ) → query_of (take 1048577 text) relations ≡ query_of text relations
+query_cut relations text = elim (cut_sizes text (nat_le (length text) 1048576) refl) [
+  | inl same ↦ ap (λ bytes. query_of bytes relations) same
+  | inr long ↦ query_long relations (take 1048577 text) long.1 ∙ sym (query_long relations text long.0)
 ]
 
-target_by : (relations : List Relation) (text other : List ℕ) → asked_by text ≡ asked_by other → target_in relations text ≡ target_in relations other
-target_by relations text other same = rw same refl
+task_by : (relations : List Relation) (text other : List ℕ) → query_of text relations ≡ query_of other relations → task_in relations text ≡ task_in relations other
+task_by relations text other same = rw same refl
 
 -- what the fetched bytes say, the text says
 pub catalogue_fetched : (told : Option (List ℕ)) (bytes : List ℕ) (says : Result (List Relation) Refusal) → IsFetched told bytes → catalogue_of bytes ≡ says → SaysCatalogue told says
 catalogue_fetched None bytes says fetched e = tt
 catalogue_fetched (Some text) bytes says fetched e = sym (catalogue_cut text) ∙ ap catalogue_of (sym fetched.1) ∙ e
 
-pub query_fetched : (relations : List Relation) (told : Option (List ℕ)) (bytes : List ℕ) (says : Result Target TargetFault) → IsFetched told bytes → target_in relations bytes ≡ says → SaysQuery relations told says
+pub query_fetched : (relations : List Relation) (told : Option (List ℕ)) (bytes : List ℕ) (says : Result Task TaskFault) → IsFetched told bytes → task_in relations bytes ≡ says → SaysQuery relations told says
 query_fetched relations None bytes says fetched e = tt
-query_fetched relations (Some text) bytes says fetched e = target_by relations text (take 1048577 text) (sym (query_cut text)) ∙ ap (target_in relations) (sym fetched.1) ∙ e
+query_fetched relations (Some text) bytes says fetched e = task_by relations text (take 1048577 text) (sym (query_cut relations text)) ∙ ap (task_in relations) (sym fetched.1) ∙ e

@@ -1,10 +1,7 @@
+pub mod AtomLaws
 pub mod FetchLaws
 pub mod LoadLaws
 pub mod MemberLaws
 pub mod OutcomeLaws
-pub mod QueryLaws
-pub mod RowTextLaws
 pub mod TakingLaws
 pub mod TargetLaws
-pub mod TokenLaws
-pub mod WritingLaws

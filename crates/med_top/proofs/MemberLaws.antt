@@ -27,11 +27,11 @@ pub rose_before : (first old new : ℕ) → first ≤ old → Rose old new → R
 rose_before first old new lower rose = grind (arith)
 
 -- a member that accepted what its wrapper gave
-pub member_sound : {S M : Type 0} (source : Source S M) (columns : List Column) (first : S) (group : ℕ) (at : List ℕ) (w : Wrapped S) (before rows : List (List Value)) (state : MemberState) (why : Option MemberFault) (accepted : ℕ) (name : MemberName) (member : MemberEnd S)
+pub member_sound : {S M : Type 0} (source : Source S M) (columns : List Column) (first : S) (atom group : ℕ) (at : List ℕ) (w : Wrapped S) (before rows : List (List Value)) (state : MemberState) (why : Option MemberFault) (accepted : ℕ) (name : MemberName) (member : MemberEnd S)
     → member ≡ record { name = name; location = at; state = state; fault = why; accepted = accepted; source = Some w.source }
-    → name ≡ member_of group → source.location first ≡ at → SameSource source first w.source → w.ahead.columns ≡ columns
-    → HasTaken source w before rows → accepted + length before ≡ length rows → SoundAs source w state why → IsMemberOf source columns (λ _. source.whole first) group at member
-member_sound source columns first group at w before rows state why accepted name member is named located same of_columns taken count sound =
+    → name ≡ member_of atom group → source.location first ≡ at → SameSource source first w.source → w.ahead.columns ≡ columns
+    → HasTaken source w before rows → accepted + length before ≡ length rows → SoundAs source w state why → IsMemberOf source columns (λ _. source.whole first) atom group at member
+member_sound source columns first atom group at w before rows state why accepted name member is named located same of_columns taken count sound =
     let own : w.accepted ≡ accepted = omega (arith, taken.has.0, count, ap length taken.behind, length-append before taken.given) in
     let P : List Column → ℕ → Type 0 = λ cs n. IsSoundState cs (source.taken w.source) (source.whole w.source) (source.faults w.source) n state why in
     rw is (record {
@@ -114,18 +114,19 @@ starved_on source columns first old members rows member (run.Starved group) runs
 starved_on source columns first old members rows member run.Stalled runs idle so_far = stays_stopped members (HasStalled source) member idle so_far
 
 -- the next member is listed as one that was never opened
-pub left_alone : {S M E : Type 0} (source : Source S M) (columns : List Column) (told : List ℕ → Option (List ℕ)) (group : ℕ) (at : List ℕ) (faults : ℕ) (asked : List (List ℕ)) (given : List M) (old new : GroupsRead S) (result : Result (Unit {0}) E)
-    → (old.end ≡ run.Settled → ⊥)
-    → OnOk result (new.members ≡ old.members ++ idle (member_of group) at ∷ []) → new.rows ≡ old.rows → new.end ≡ old.end
-    → OnOk result (Advances source columns told group at (record { faults = record { old = faults; new = faults }; asked = record { old = asked; new = asked }; given = record { old = given; new = given } }) old new)
-left_alone source columns told group at faults asked given old new (Err e) runs grown rows end = tt
-left_alone source columns told group at faults asked given old new (Ok done) runs grown rows end = record {
-  member = idle (member_of group) at;
+pub left_alone : {S M E : Type 0} (source : Source S M) (columns : List Column) (told : List ℕ → Option (List ℕ)) (name : MemberName) (at : List ℕ) (faults : ℕ) (asked : List (List ℕ)) (given : List M) (old new : GroupsRead S) (result : Result (Unit {0}) E)
+    → name ≡ member_of name.atom name.group → (old.end ≡ run.Settled → ⊥)
+    → OnOk result (new.members ≡ old.members ++ idle name at ∷ []) → new.rows ≡ old.rows → new.end ≡ old.end
+    → OnOk result (Advances source columns told name.atom name.group at (record { faults = record { old = faults; new = faults }; asked = record { old = asked; new = asked }; given = record { old = given; new = given } }) old new)
+left_alone source columns told name at faults asked given old new (Err e) named runs grown rows end = tt
+left_alone source columns told name at faults asked given old new (Ok done) named runs grown rows end = record {
+  member = idle name at;
   grown = grown;
-  is_member = record { name = refl; location = refl; sound = (refl, tt); whole = tt };
+  is_member = record { name = named; location = refl; sound = (refl, tt); whole = tt };
   asked = sym (append-nil asked);
   given = sym (append-nil given);
-  ends = λ first lower so_far. rw (grown, rows, end) (starved_on source columns first faults old.members old.rows.items (idle (member_of group) at) old.end runs (refl, refl) so_far);
+  stays = λ _. ((refl, refl), end);
+  ends = λ first lower so_far. rw (grown, rows, end) (starved_on source columns first faults old.members old.rows.items (idle name at) old.end runs (refl, refl) so_far);
 }
 
 pub asked_more : {S : Type 0} (members more : List (MemberEnd S)) → asked_locations (members ++ more) ≡ asked_locations members ++ asked_locations more
@@ -143,24 +144,32 @@ given_more {M = M} source (member ∷ members) more =
 pub appended : {A : Type 0} (old mid new xs ys all : List A) → mid ≡ old ++ xs → new ≡ mid ++ ys → all ≡ xs ++ ys → new ≡ old ++ all
 appended old mid new xs ys all first second is = second ∙ ap (λ front. front ++ ys) first ∙ append_assoc old xs ys ∙ ap (λ more. old ++ more) (sym is)
 
-drop_at : {A : Type 0} (xs : List A) (place : ℕ) (x : A) → place < length xs → x ≡ slice_index_or xs place x → drop place xs ≡ x ∷ drop (suc place) xs
+pub drop_at : {A : Type 0} (xs : List A) (place : ℕ) (x : A) → place < length xs → x ≡ slice_index_or xs place x → drop place xs ≡ x ∷ drop (suc place) xs
 drop_at [] place x within is = absurd (omega (arith, within))
 drop_at (y ∷ ys) zero x within is = ap (λ first. first ∷ ys) (sym is)
 drop_at (y ∷ ys) (suc place) x within is = drop_at ys place x (omega (arith, within)) is
 
 -- the members so far have one more behind them, whatever the others will be
-pub members_on : {S M : Type 0} (source : Source S M) (columns : List Column) (told : List ℕ → Option (List ℕ)) (locations : List (List ℕ)) (place : ℕ) (at : List ℕ) (member : MemberEnd S) (old new : List (MemberEnd S))
-    → place < length locations → at ≡ slice_index_or locations place at → IsMemberOf source columns told (place + 1) at member → new ≡ old ++ member ∷ []
-    → ((more : List (MemberEnd S)) → AreMembers source columns told (place + 1) (drop place locations) more → AreMembers source columns told 1 locations (old ++ more))
-    → (more : List (MemberEnd S)) → AreMembers source columns told (place + 1 + 1) (drop (place + 1) locations) more → AreMembers source columns told 1 locations (new ++ more)
-members_on source columns told locations place at member old new within is is_member grown so_far more behind =
+pub members_on : {S M : Type 0} (source : Source S M) (columns : List Column) (told : List ℕ → Option (List ℕ)) (atom : ℕ) (locations : List (List ℕ)) (place : ℕ) (at : List ℕ) (name : MemberName) (member : MemberEnd S) (old new : List (MemberEnd S))
+    → place < length locations → at ≡ slice_index_or locations place at → name ≡ member_of atom (place + 1) → IsMemberOf source columns told name.atom name.group at member → new ≡ old ++ member ∷ []
+    → ((more : List (MemberEnd S)) → AreMembers source columns told atom (place + 1) (drop place locations) more → AreMembers source columns told atom 1 locations (old ++ more))
+    → (more : List (MemberEnd S)) → AreMembers source columns told atom (place + 1 + 1) (drop (place + 1) locations) more → AreMembers source columns told atom 1 locations (new ++ more)
+members_on source columns told atom locations place at name member old new within is named is_member grown so_far more behind =
     let next : place + 1 ≡ suc place = omega arith in
-    rw (grown, append_assoc old (member ∷ []) more) (so_far (member ∷ more) (rw (drop_at locations place at within is) (is_member, subst (λ n. AreMembers source columns told (place + 1 + 1) (drop n locations) more) next behind)))
+    rw (grown, append_assoc old (member ∷ []) more) (so_far (member ∷ more) (rw (drop_at locations place at within is) (subst (λ n. IsMemberOf source columns told n.atom n.group at member) named is_member, subst (λ n. AreMembers source columns told atom (place + 1 + 1) (drop n locations) more) next behind)))
 
 -- all locations have their members
-pub members_all : {S M : Type 0} (source : Source S M) (columns : List Column) (told : List ℕ → Option (List ℕ)) (locations : List (List ℕ)) (place : ℕ) (members : List (MemberEnd S))
+pub members_all : {S M : Type 0} (source : Source S M) (columns : List Column) (told : List ℕ → Option (List ℕ)) (atom : ℕ) (locations : List (List ℕ)) (place : ℕ) (members : List (MemberEnd S))
     → length locations ≤ place
-    → ((more : List (MemberEnd S)) → AreMembers source columns told (place + 1) (drop place locations) more → AreMembers source columns told 1 locations (members ++ more))
-    → AreMembers source columns told 1 locations members
-members_all source columns told locations place members all so_far =
-    subst (AreMembers source columns told 1 locations) (append-nil members) (so_far [] (rw (drop_all place locations all) tt))
+    → ((more : List (MemberEnd S)) → AreMembers source columns told atom (place + 1) (drop place locations) more → AreMembers source columns told atom 1 locations (members ++ more))
+    → AreMembers source columns told atom 1 locations members
+members_all source columns told atom locations place members all so_far =
+    subst (AreMembers source columns told atom 1 locations) (append-nil members) (so_far [] (rw (drop_all place locations all) tt))
+
+-- behind a run that had ended already, one more is left alone
+pub stays_on : {S : Type 0} (member : MemberEnd S) (members more : List (MemberEnd S)) {before mid after : RunEnd} → more ≡ members ++ member ∷ []
+    → AllByRecursion IsIdle members × (mid ≡ before) → (before ≡ run.Settled → ⊥) → ((mid ≡ run.Settled → ⊥) → IsIdle member × (after ≡ mid))
+    → AllByRecursion IsIdle more × (after ≡ before)
+stays_on member members more grown so_far stopped stays =
+    let next = stays (λ settled. stopped (sym so_far.1 ∙ settled)) in
+    (rw grown (all_more IsIdle members member so_far.0 next.0), next.1 ∙ so_far.1)

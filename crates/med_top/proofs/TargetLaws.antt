@@ -1,71 +1,68 @@
--- Where a relation of a name stands, and the limits that what is read of it keeps.
-use Rattle.std.proofs.Common.{◌≤◌, Bool, false, Option, Some, None, Ok, Err, Result, IfOk, IfSome, option_map, option_and_then, if◌then◌else◌, ◌==◌, ◌≡◌, ℕ, zero, suc, ◌<◌, true, List, [], ◌∷◌, length, drop, slice_get, slice_index_or, arith, refl, sym, subst}
-use Rattle.cat_reader.specs.declared.catalogue.Relation.{Relation}
-use Rattle.med_top.specs.Query.{same_name}
-use Rattle.cat_reader.specs.Accepted.{IsWithin}
-use Rattle.med_prelude.specs.Reading.{Gives, or_at}
-use Rattle.med_prelude.specs.declared.reading.ReadFault.{ReadFault}
+-- What is read for the atoms of an accepted query keeps the limits of the catalogue.
+use Rattle.std.proofs.Common.{◌≤◌, Option, Some, None, IfSome, option_map, option_and_then, ◌≡◌, ℕ, zero, suc, List, [], ◌∷◌, length, slice_get, arith, sym, subst}
 use Rattle.std.specs.List.{AllByRecursion}
-use Rattle.med_top.specs.Query.{asked_by}
-use Rattle.med_top.specs.Targets.{IsTargetWithin, asked_in, of_width, only, only_mirrors, relation_asked, relation_named, target_of}
-use Rattle.med_top.specs.declared.query.Asked.{Asked}
+use Rattle.cat_reader.specs.Accepted.{IsWithin, KeepsLimits}
+use Rattle.cat_reader.specs.declared.catalogue.Relation.{Relation}
+use Rattle.query_reader.specs.Fitting.{FitsCatalogue}
+use Rattle.query_reader.specs.declared.query.Atom.{Atom}
+use Rattle.query_reader.specs.declared.query.Query.{Query}
+use Rattle.med_top.specs.Targets.{IsTargetWithin, only, only_mirrors, target_for, target_of, targets_for}
+use Rattle.med_top.specs.Tasks.{IsTaskWithin}
 use Rattle.med_top.specs.declared.target.Target.{Target}
-use Rattle.med_top.specs.declared.target.TargetFault.{TargetFault}
-use Rattle.med_top.specs.declared.target.TargetFault.TheVariants as fault
 
-pub named_at : (name : List ℕ) (relations : List Relation) (place : ℕ) (relation : Relation)
-    → place < length relations → relation ≡ slice_index_or relations place relation → same_name relation.name name ≡ true
-    → slice_get relations place ≡ relation_named name (drop place relations)
-named_at name [] place relation within is same = absurd (omega (arith, within))
-named_at name (first ∷ relations) zero relation within is same = rw (← is, same) refl
-named_at name (first ∷ relations) (suc place) relation within is same = named_at name relations place relation (omega (arith, within)) is same
-
-either : {A : Type 0} (P : A → Type 0) (test : Bool) (x y : Option A) → IfSome x P → IfSome y P → IfSome (if test then x else y) P
-either P true x y a b = a
-either P false x y a b = b
-
-named_within : (name : List ℕ) (relations : List Relation) → AllByRecursion IsWithin relations → IfSome (relation_named name relations) IsWithin
-named_within name [] all = tt
-named_within name (relation ∷ relations) all = either IsWithin (same_name relation.name name) (Some relation) (relation_named name relations) all.0 (named_within name relations all.1)
-
-wide_within : (width : ℕ) (found : Option Relation) → IfSome found IsWithin → IfSome (option_and_then (of_width width) found) IsWithin
-wide_within width None h = tt
-wide_within width (Some relation) h = either IsWithin (length relation.columns == width) (Some relation) None h tt
-
-asked_within : (relations : List Relation) (asked : Option Asked) → AllByRecursion IsWithin relations → IfSome (option_and_then (asked_in relations) asked) IsWithin
-asked_within relations None all = tt
-asked_within relations (Some asked) all = wide_within asked.width (relation_named asked.relation relations) (named_within asked.relation relations all)
-
-abbrev IsShort : ℕ → Option (List (List ℕ)) → Type 0
+abbrev IsShort : {A : Type 0} → ℕ → Option (List A) → Type 0
 IsShort most found = IfSome found (λ xs. length xs ≤ most)
 
-one_more : (most : ℕ) (location : List ℕ) (found : Option (List (List ℕ))) → IsShort most found → IsShort (suc most) (option_map (λ more. location ∷ more) found)
-one_more most location None h = tt
-one_more most location (Some xs) h = omega (arith, h)
+one_more : {A : Type 0} (most : ℕ) (x : A) (found : Option (List A)) → IsShort most found → IsShort (suc most) (option_map (λ more. x ∷ more) found)
+one_more most x None h = tt
+one_more most x (Some xs) h = omega (arith, h)
 
-more_short : (most : ℕ) (location : Option (List ℕ)) (found : Option (List (List ℕ))) → IsShort most found → IsShort (suc most) (option_and_then (λ l. option_map (λ more. l ∷ more) found) location)
+more_short : {A : Type 0} (most : ℕ) (first : Option A) (found : Option (List A)) → IsShort most found → IsShort (suc most) (option_and_then (λ x. option_map (λ more. x ∷ more) found) first)
 more_short most None found h = tt
-more_short most (Some location) found h = one_more most location found h
+more_short most (Some x) found h = one_more most x found h
 
 mirrors_short : (groups : List (List (List ℕ))) → IsShort (length groups) (only_mirrors groups)
 mirrors_short [] = omega arith
 mirrors_short (group ∷ groups) = more_short (length groups) (only group) (only_mirrors groups) (mirrors_short groups)
 
+targets_short : (relations : List Relation) (atoms : List Atom) → IsShort (length atoms) (targets_for relations atoms)
+targets_short relations [] = omega arith
+targets_short relations (atom ∷ atoms) = more_short (length atoms) (target_for relations atom) (targets_for relations atoms) (targets_short relations atoms)
+
 located : (relation : Relation) (found : Option (List (List ℕ))) → IsWithin relation → IsShort (length relation.groups) found
-    → IfOk (or_at fault.Mirrors (option_map (λ locations. record { columns = relation.columns; locations = locations }) found)) IsTargetWithin
+    → IfSome (option_map (λ locations. record { columns = relation.columns; locations = locations }) found) IsTargetWithin
 located relation None within short = tt
 located relation (Some locations) within short = record { columns = within.columns; groups = omega (arith, short, within.groups) }
 
-of_relation : (found : Option Relation) (relation : Relation) → IfSome found IsWithin → Some relation ≡ found → IsWithin relation
-of_relation found relation h e = subst (λ f. IfSome f IsWithin) (sym e) h
+target_within : (relation : Relation) → IsWithin relation → IfSome (target_of relation) IsTargetWithin
+target_within relation within = located relation (only_mirrors relation.groups) within (mirrors_short relation.groups)
 
-gives_within : (answer : Result Target (ReadFault TargetFault)) (says : Result Target TargetFault) → Gives answer says → IfOk says IsTargetWithin → IfOk answer IsTargetWithin
-gives_within (Ok target) says e h = subst (λ r. IfOk r IsTargetWithin) e h
-gives_within (Err fault) says e h = tt
+at_within : (relations : List Relation) (place : ℕ) → AllByRecursion IsWithin relations → IfSome (option_and_then target_of (slice_get relations place)) IsTargetWithin
+at_within [] place all = tt
+at_within (relation ∷ relations) zero all = target_within relation all.0
+at_within (relation ∷ relations) (suc place) all = at_within relations place all.1
 
--- what is read of a relation that a query asks for, in a catalogue that keeps its limits
-pub target_within : (relations : List Relation) (text : List ℕ) (relation : Relation) (answer : Result Target (ReadFault TargetFault))
-    → AllByRecursion IsWithin relations → Some relation ≡ relation_asked relations text → Gives answer (or_at fault.Mirrors (target_of relation)) → IfOk answer IsTargetWithin
-target_within relations text relation answer all asked gives =
-    gives_within answer (or_at fault.Mirrors (target_of relation)) gives
-    (located relation (only_mirrors relation.groups) (of_relation (relation_asked relations text) relation (asked_within relations (asked_by text) all) asked) (mirrors_short relation.groups))
+both_within : (first : Option Target) (found : Option (List Target)) → IfSome first IsTargetWithin → IfSome found (AllByRecursion IsTargetWithin)
+    → IfSome (option_and_then (λ target. option_map (λ more. target ∷ more) found) first) (AllByRecursion IsTargetWithin)
+both_within None found a b = tt
+both_within (Some target) None a b = tt
+both_within (Some target) (Some targets) a b = (a, b)
+
+each_within : (relations : List Relation) (atoms : List Atom) → AllByRecursion IsWithin relations → IfSome (targets_for relations atoms) (AllByRecursion IsTargetWithin)
+each_within relations [] all = tt
+each_within relations (atom ∷ atoms) all = both_within (target_for relations atom) (targets_for relations atoms) (at_within relations atom.relation all) (each_within relations atoms all)
+
+found_within : (query : Query) (targets : List Target) (found : Option (List Target)) → Some targets ≡ found → length query.head ≤ 64 → length query.atoms ≤ 8
+    → IsShort (length query.atoms) found → IfSome found (AllByRecursion IsTargetWithin) → IsTaskWithin (record { query = query; targets = targets })
+found_within query targets found is head few short each =
+    let here = subst (IsShort (length query.atoms)) (sym is) short in
+    record {
+      head = head;
+      targets = record { few = omega (arith, here, few); each = subst (λ f. IfSome f (AllByRecursion IsTargetWithin)) (sym is) each };
+    }
+
+-- the task of an accepted query is within its limits
+pub task_within : (relations : List Relation) (query : Query) (targets : List Target) → KeepsLimits relations → FitsCatalogue relations query
+    → Some targets ≡ targets_for relations query.atoms → IsTaskWithin (record { query = query; targets = targets })
+task_within relations query targets keeps fits is =
+    found_within query targets (targets_for relations query.atoms) is fits.short_head fits.few_atoms (targets_short relations query.atoms) (each_within relations query.atoms keeps.each)

@@ -1,9 +1,8 @@
+pub mod Atoms
 pub mod Command
 pub mod Loading
 pub mod Members
 pub mod Outcomes
-pub mod Query
 pub mod Taking
 pub mod Targets
-pub mod Tokens
-pub mod Writing
+pub mod Tasks

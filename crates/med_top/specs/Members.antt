@@ -1,4 +1,4 @@
--- The members of a relation's groups, and how their run ended.
+-- The members of an atom's groups, and how their run ended.
 use Rattle.std.specs.Prelude.{◌≡◌, ⊤, ℕ, ◌+◌, ◌≤◌, List, [], ◌∷◌, ◌++◌, Option, Some, None, IfSome, IsSomeAnd, option_and_then, option_map}
 use Rattle.std.specs.List.{AllByRecursion}
 use Rattle.csv_wrap.specs.declared.members.MemberEnd.{MemberEnd}
@@ -27,27 +27,27 @@ pub record Opened (M : Type 0) : Type 0 where
   pub asked : Change (List (List ℕ))
   pub given : Change (List M)
 
--- the one mirror of a group of the one atom
-abbrev pub member_of : ℕ → MemberName
-member_of group = record { atom = 1; group = group; mirror = 1 }
+-- the one mirror of an atom's group
+abbrev pub member_of : ℕ → ℕ → MemberName
+member_of atom group = record { atom = atom; group = group; mirror = 1 }
 
 abbrev pub group_of : MemberName → GroupName
 group_of name = record { atom = name.atom; group = name.group }
 
 -- The member of a group's one mirror: it is sound, and its source has the text that was told at the location.
-pub record IsMemberOf {S M : Type 0} (source : Source S M) (columns : List Column) (told : List ℕ → Option (List ℕ)) (group : ℕ) (at : List ℕ) (member : MemberEnd S) : Type 0 where
-  pub name : member.name ≡ member_of group
+pub record IsMemberOf {S M : Type 0} (source : Source S M) (columns : List Column) (told : List ℕ → Option (List ℕ)) (atom group : ℕ) (at : List ℕ) (member : MemberEnd S) : Type 0 where
+  pub name : member.name ≡ member_of atom group
   pub location : member.location ≡ at
   pub sound : IsSoundMember source columns member
   pub whole : IfSome member.source (λ s. StaysTold (told at) (source.whole s))
 
 -- each location has its member, in order, from a group on
-abbrev pub AreMembers : {S M : Type 0} → Source S M → List Column → (List ℕ → Option (List ℕ)) → ℕ → List (List ℕ) → List (MemberEnd S) → Type 0
-AreMembers source columns told group [] [] = ⊤
-AreMembers source columns told group [] (member ∷ members) = ⊥
-AreMembers source columns told group (location ∷ locations) [] = ⊥
-AreMembers source columns told group (location ∷ locations) (member ∷ members) =
-    IsMemberOf source columns told group location member × AreMembers source columns told (group + 1) locations members
+abbrev pub AreMembers : {S M : Type 0} → Source S M → List Column → (List ℕ → Option (List ℕ)) → ℕ → ℕ → List (List ℕ) → List (MemberEnd S) → Type 0
+AreMembers source columns told atom group [] [] = ⊤
+AreMembers source columns told atom group [] (member ∷ members) = ⊥
+AreMembers source columns told atom group (location ∷ locations) [] = ⊥
+AreMembers source columns told atom group (location ∷ locations) (member ∷ members) =
+    IsMemberOf source columns told atom group location member × AreMembers source columns told atom (group + 1) locations members
 
 abbrev pub HasEnded : {S : Type 0} → MemberEnd S → Type 0
 HasEnded member = member.state ≡ state.Ended
@@ -102,11 +102,12 @@ EndsMember source columns old new rows more member (run.Starved group) = HasFail
 EndsMember source columns old new rows more member run.Stalled = HasStalled source member
 
 -- what a run so far becomes by the next group
-pub record Advances {S M : Type 0} (source : Source S M) (columns : List Column) (told : List ℕ → Option (List ℕ)) (group : ℕ) (location : List ℕ) (opener : Opened M) (old new : GroupsRead S) : Type 0 where
+pub record Advances {S M : Type 0} (source : Source S M) (columns : List Column) (told : List ℕ → Option (List ℕ)) (atom group : ℕ) (location : List ℕ) (opener : Opened M) (old new : GroupsRead S) : Type 0 where
   pub member : MemberEnd S
   pub grown : new.members ≡ old.members ++ member ∷ []
-  pub is_member : IsMemberOf source columns told group location member
+  pub is_member : IsMemberOf source columns told atom group location member
   pub asked : opener.asked.new ≡ opener.asked.old ++ asked_locations (member ∷ [])
   pub given : opener.given.new ≡ opener.given.old ++ given_marks source (member ∷ [])
   pub ends : (first : ℕ) → first ≤ opener.faults.old → EndsRun source columns first opener.faults.old old.members old.rows.items old.end
       → EndsRun source columns first opener.faults.new new.members new.rows.items new.end
+  pub stays : (old.end ≡ run.Settled → ⊥) → IsIdle member × (new.end ≡ old.end)

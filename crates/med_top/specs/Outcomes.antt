@@ -11,19 +11,20 @@ use Rattle.med_base.specs.declared.status.Status.TheVariants as status
 use Rattle.med_prelude.specs.Counts.{Rose}
 use Rattle.med_prelude.specs.Texts.{grown}
 use Rattle.tuple_core.specs.declared.value.Value.{Value}
-use Rattle.tuple_core.specs.Distinct.{AreSortedDistinct}
-use Rattle.tuple_core.specs.RowText.{rows_text}
+use Rattle.query_reader.specs.Answers.{answer_text}
+use Rattle.query_reader.specs.declared.query.Query.{Query}
 use Rattle.med_top.specs.Command.{command_of}
 use Rattle.med_top.specs.Loading.{AfterCatalogue, Loads, SaysCatalogue, SaysQuery}
-use Rattle.med_top.specs.Members.{AreMembers, Change, HasEnded, HasFailed, HasStalled, StopsAt, arrivals}
+use Rattle.med_top.specs.Atoms.{AreAllMembers, all_arrivals}
+use Rattle.med_top.specs.Members.{Change, HasEnded, HasFailed, HasStalled, StopsAt}
 use Rattle.med_top.specs.declared.groups.RunEnd.{RunEnd}
 use Rattle.med_top.specs.declared.groups.RunEnd.TheVariants as run
 use Rattle.med_top.specs.declared.load.LoadFault.{LoadFault}
 use Rattle.med_top.specs.declared.load.LoadFault.TheVariants as load
 use Rattle.med_top.specs.declared.taking.TheConstants.{IDLE_LIMIT}
-use Rattle.med_top.specs.declared.target.Target.{Target}
-use Rattle.med_top.specs.declared.target.TargetFault.{TargetFault}
-use Rattle.med_top.specs.declared.target.TargetFault.TheVariants as fault
+use Rattle.med_top.specs.declared.task.Task.{Task}
+use Rattle.med_top.specs.declared.task.TaskFault.{TaskFault}
+use Rattle.med_top.specs.declared.task.TaskFault.TheVariants as fault
 
 -- What a call met and left: the words; what the shelf and the opener tell; how often each of them failed; the names that
 -- the shelf was asked for; what the sink tells and how often it failed; and the members.
@@ -39,45 +40,39 @@ pub record Call (S M : Type 0) : Type 1 where
   pub out_faults : Change ℕ
   pub members : List (MemberEnd S)
 
--- the words name a catalogue and a query, which ask for this to be read
-pub record Accepts (words : List (List ℕ)) (texts : List ℕ → Option (List ℕ)) (target : Target) : Type 0 where
+-- the words name a catalogue and a query, which ask for this to be done
+pub record Accepts (words : List (List ℕ)) (texts : List ℕ → Option (List ℕ)) (task : Task) : Type 0 where
   pub catalogue : List ℕ
   pub query : List ℕ
   pub command : command_of words ≡ Some (catalogue, query)
-  pub loads : Loads (texts catalogue) (texts query) (Ok target)
+  pub loads : Loads (texts catalogue) (texts query) (Ok task)
 
 -- nothing was run: there is no member, and the sink has what it had
 pub record RunsNothing {S M : Type 0} (call : Call S M) : Type 0 where
   pub no_members : call.members ≡ []
   pub silent : call.written.new ≡ call.written.old
 
--- the groups of what the query asks for were run: each has its member, and this holds
-pub record RunsGroups {S M : Type 0} (call : Call S M) (ends : Target → Type 0) : Type 0 where
-  pub target : Target
-  pub accepts : Accepts call.words call.texts target
-  pub members : AreMembers call.source target.columns call.sources 1 target.locations call.members
-  pub ends_so : ends target
+-- what the query asks for was run: each group of each atom has its member, and this holds
+pub record RunsAtoms {S M : Type 0} (call : Call S M) (ends : Task → Type 0) : Type 0 where
+  pub task : Task
+  pub accepts : Accepts call.words call.texts task
+  pub members : AreAllMembers call.source call.sources 1 task.targets call.members
+  pub ends_so : ends task
 
--- The text of the distinct rows, in their order.
-pub record IsAnswerText (rows : List (List Value)) (text : List ℕ) : Type 0 where
-  pub sorted : List (List Value)
-  pub distinct : AreSortedDistinct rows sorted
-  pub is : text ≡ rows_text sorted
-
--- the text is the answer over the rows that the members accepted
-abbrev pub IsAnswer : {S M : Type 0} → Call S M → Target → List ℕ → Type 0
-IsAnswer call target text = IfSome (arrivals call.source target.columns call.members) (λ rows. IsAnswerText rows text)
+-- the text is that of the query's answer over the rows that the members accepted
+abbrev pub IsAnswer : {S M : Type 0} → Call S M → Task → List ℕ → Type 0
+IsAnswer call task text = IfSome (all_arrivals call.source call.members 1 task.targets) (λ rows. text ≡ answer_text task.query rows)
 
 -- every group is settled, and the whole text of the answer was written
-abbrev pub WritesAnswer : {S M : Type 0} → Call S M → Target → Type 0
-WritesAnswer call target = AllByRecursion HasEnded call.members
-    × (text : List ℕ) × IsAnswer call target text × (call.written.new ≡ grown call.written.old text)
+abbrev pub WritesAnswer : {S M : Type 0} → Call S M → Task → Type 0
+WritesAnswer call task = AllByRecursion HasEnded call.members
+    × (text : List ℕ) × IsAnswer call task text × (call.written.new ≡ grown call.written.old text)
 
 -- every group is settled, the sink failed, and a prefix of the answer's text was written
-abbrev pub WritesPrefix : {S M : Type 0} → Call S M → Target → Type 0
-WritesPrefix call target = AllByRecursion HasEnded call.members
+abbrev pub WritesPrefix : {S M : Type 0} → Call S M → Task → Type 0
+WritesPrefix call task = AllByRecursion HasEnded call.members
     × Rose call.out_faults.old call.out_faults.new
-    × (text : List ℕ) × IsAnswer call target text × (n : ℕ) × (call.written.new ≡ grown call.written.old (take n text))
+    × (text : List ℕ) × IsAnswer call task text × (n : ℕ) × (call.written.new ≡ grown call.written.old (take n text))
 
 -- the call has the words of a command, of which this holds
 abbrev pub IfCommand : {S M : Type 0} → Call S M → (List ℕ → List ℕ → Type 0) → Type 0
@@ -96,57 +91,56 @@ abbrev pub RefusesCatalogue : {S M : Type 0} → Call S M → ℕ → ℕ → �
 RefusesCatalogue call why relation item = IfCommand call (λ catalogue query.
     SaysCatalogue (call.texts catalogue) (Err (record { why = why; part = relation; item = item })))
 
--- the query isn't of the form that is built, or a group of its relation hasn't one mirror
-abbrev pub QueryNotBuilt : {S M : Type 0} → Call S M → TargetFault → Type 0
-QueryNotBuilt call fault = IfCommand call (λ catalogue query.
+-- the query's text gives no task for that cause, the catalogue being accepted
+abbrev pub RefusesTask : {S M : Type 0} → Call S M → TaskFault → Type 0
+RefusesTask call fault = IfCommand call (λ catalogue query.
     AfterCatalogue (call.texts catalogue) (λ relations. SaysQuery relations (call.texts query) (Err fault)))
 
 -- the run ended so at one of the members, and the sink has what it had
 abbrev pub EndsSilently : {S M : Type 0} → Call S M → (MemberEnd S → Type 0) → Type 0
-EndsSilently call stops = RunsGroups call (λ target. StopsAt call.members stops × (call.written.new ≡ call.written.old))
+EndsSilently call stops = RunsAtoms call (λ task. StopsAt call.members stops × (call.written.new ≡ call.written.old))
 
 -- what isn't built yet, by its number
 abbrev pub IsNotBuilt : {S M : Type 0} → Call S M → ℕ → Type 0
 IsNotBuilt call why =
     MatchBool (why == 1) (RunsNothing call × (command_of call.words ≡ None))
-    (MatchBool (why == 3) (RunsNothing call × QueryNotBuilt call fault.Query)
-    (MatchBool (why == 4) (RunsNothing call × QueryNotBuilt call fault.Mirrors) ⊥))
+    (MatchBool (why == 4) (RunsNothing call × RefusesTask call fault.Mirrors) ⊥)
 
 -- What holds at each status. Want of memory may come anywhere, and the statuses that are ⊥ never come.
 abbrev pub HoldsAt : {S M : Type 0} → Call S M → Status → Type 0
-HoldsAt call status.Done = RunsGroups call (WritesAnswer call)
+HoldsAt call status.Done = RunsAtoms call (WritesAnswer call)
 HoldsAt call status.NoMemory = ⊤
 HoldsAt call (status.ShelfFault file) = RunsNothing call × ShelfFailed call file
 HoldsAt call (status.CatalogueRefused why relation item) = RunsNothing call × RefusesCatalogue call why relation item
+HoldsAt call (status.QueryRefused why at) = RunsNothing call × RefusesTask call (fault.Query why at)
 HoldsAt call (status.Starved group) = EndsSilently call (HasFailed call.opener_faults.old call.opener_faults.new group)
 HoldsAt call (status.Stalled rounds) = (rounds ≡ IDLE_LIMIT) × EndsSilently call (HasStalled call.source)
-HoldsAt call status.OutFault = RunsGroups call (WritesPrefix call)
+HoldsAt call status.OutFault = RunsAtoms call (WritesPrefix call)
 HoldsAt call (status.NotBuilt why) = IsNotBuilt call why
 HoldsAt call status.Usage = ⊥
-HoldsAt call (status.QueryRefused why at) = ⊥
 HoldsAt call (status.PlanRefused why part item) = ⊥
 HoldsAt call (status.RuleError rule) = ⊥
 HoldsAt call (status.SpillFault file) = ⊥
 HoldsAt call (status.SpillFull file need limit) = ⊥
 HoldsAt call (status.Differs file kept found) = ⊥
 
--- what the writing of the rows of a settled run comes to
-abbrev pub FinishesRows : Change (Option (List ℕ)) → Change ℕ → List (List Value) → Status → Type 0
-FinishesRows written faults rows status.Done = (text : List ℕ) × IsAnswerText rows text × (written.new ≡ grown written.old text)
-FinishesRows written faults rows status.OutFault = Rose faults.old faults.new × (text : List ℕ) × IsAnswerText rows text × (n : ℕ) × (written.new ≡ grown written.old (take n text))
-FinishesRows written faults rows status.NoMemory = ⊤
-FinishesRows written faults rows other = ⊥
+-- what the writing of the answer of a settled run comes to
+abbrev pub FinishesAnswer : Change (Option (List ℕ)) → Change ℕ → Query → List (List (List Value)) → Status → Type 0
+FinishesAnswer written faults query rows status.Done = written.new ≡ grown written.old (answer_text query rows)
+FinishesAnswer written faults query rows status.OutFault = Rose faults.old faults.new × (n : ℕ) × (written.new ≡ grown written.old (take n (answer_text query rows)))
+FinishesAnswer written faults query rows status.NoMemory = ⊤
+FinishesAnswer written faults query rows other = ⊥
 
 -- what the end of a run comes to
-abbrev pub Finishes : Change (Option (List ℕ)) → Change ℕ → List (List Value) → RunEnd → Status → Type 0
-Finishes written faults rows run.Settled ends = FinishesRows written faults rows ends
-Finishes written faults rows (run.Starved group) ends = (ends ≡ status.Starved group) × (written.new ≡ written.old)
-Finishes written faults rows run.Stalled ends = (ends ≡ status.Stalled IDLE_LIMIT) × (written.new ≡ written.old)
+abbrev pub Finishes : Change (Option (List ℕ)) → Change ℕ → Query → List (List (List Value)) → RunEnd → Status → Type 0
+Finishes written faults query rows run.Settled ends = FinishesAnswer written faults query rows ends
+Finishes written faults query rows (run.Starved group) ends = (ends ≡ status.Starved group) × (written.new ≡ written.old)
+Finishes written faults query rows run.Stalled ends = (ends ≡ status.Stalled IDLE_LIMIT) × (written.new ≡ written.old)
 
 -- the status of a load that gave nothing to run
 abbrev pub status_of : LoadFault → Status
 status_of (load.Shelf file) = status.ShelfFault file
 status_of (load.Catalogue why relation item) = status.CatalogueRefused why relation item
-status_of (load.NotBuilt fault.Query) = status.NotBuilt 3
-status_of (load.NotBuilt fault.Mirrors) = status.NotBuilt 4
+status_of (load.Query (fault.Query why at)) = status.QueryRefused why at
+status_of (load.Query fault.Mirrors) = status.NotBuilt 4
 status_of load.NoMemory = status.NoMemory

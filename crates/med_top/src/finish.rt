@@ -1,39 +1,46 @@
-//! Finishes a run: sorts its rows, and writes their text.
+//! Finishes a run: answers the query over the rows that came, and writes the answer.
 
-ghost use Rattle.std.specs.Prelude.{◌≡◌};
-ghost use Rattle.med_top.specs.Outcomes.{Finishes, FinishesRows};
+ghost use Rattle.std.specs.Prelude.{◌≤◌, length};
+ghost use Rattle.med_top.specs.Outcomes.{Finishes, FinishesAnswer};
 
 use crate::groups::RunEnd;
-use crate::output::write_all;
-use crate::row_text::text_of_rows;
 use crate::taking::IDLE_LIMIT;
 use med_base::{Sink, SinkFault, Status};
+use out_text::write_rows;
+use query_model::slow_answer;
+use query_reader::{Arrivals, Query};
 use std::alloc::Global;
-use tuple_core::{Row, sorted_distinct};
+use tuple_core::Rows;
 
-/// The status that the end of a run comes to, which for one whose groups are settled is that of writing its
-/// rows.
-pub fn finish<W: Sink>(alloc: Global, out: &mut W, rows: Vec<Row>, end: RunEnd) -> Status
-    ensures { Finishes (record { old = W.written out.old; new = W.written out.new }) (record { old = W.faults out.old; new = W.faults out.new }) rows.items end result }
+/// The status that the end of a run comes to, which for one whose groups are settled is that of writing the answer.
+pub fn finish<W: Sink>(
+    alloc: Global,
+    out: &mut W,
+    query: &Query,
+    arrivals: Vec<Rows>,
+    end: RunEnd,
+) -> Status
+    requires head { length query.now.head ≤ 64 }
+    ensures { Finishes (record { old = W.written out.old; new = W.written out.new }) (record { old = W.faults out.old; new = W.faults out.new }) query.now arrivals.items end result }
 {
     match end {
-        RunEnd::Settled => write_rows(alloc, out, rows),
+        RunEnd::Settled => write_answer(alloc, out, query, Arrivals::from_vec(arrivals)),
         RunEnd::Starved(group) => Status::Starved { group },
         RunEnd::Stalled => Status::Stalled { rounds: IDLE_LIMIT },
     }
 }
 
-/// Writes the text of the distinct rows, in their order.
-fn write_rows<W: Sink>(alloc: Global, out: &mut W, rows: Vec<Row>) -> Status
-    ensures { FinishesRows (record { old = W.written out.old; new = W.written out.new }) (record { old = W.faults out.old; new = W.faults out.new }) rows.items result }
+/// Writes the rows of the answer. The rows that came are let go before the text is made.
+fn write_answer<W: Sink>(alloc: Global, out: &mut W, query: &Query, arrivals: Arrivals) -> Status
+    requires head { length query.now.head ≤ 64 }
+    ensures { FinishesAnswer (record { old = W.written out.old; new = W.written out.new }) (record { old = W.faults out.old; new = W.faults out.new }) query.now arrivals result }
 {
-    let Ok(sorted) = sorted_distinct(rows) else {
+    let answered = slow_answer(alloc, query, &arrivals);
+    drop(arrivals);
+    let Ok(rows) = answered else {
         return Status::NoMemory;
     };
-    let Ok(text) = text_of_rows(alloc, sorted.as_slice()) else {
-        return Status::NoMemory;
-    };
-    match write_all(alloc, out, text.as_slice()) {
+    match write_rows(alloc, &rows, out) {
         Ok(()) => Status::Done,
         Err(SinkFault::Failed) => Status::OutFault,
         Err(SinkFault::NoMemory) => Status::NoMemory,

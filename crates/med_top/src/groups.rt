@@ -1,9 +1,10 @@
-//! Reads the groups of a relation one after the other, each one's mirror to its end.
+//! Reads the groups of an atom one after the other, each one's mirror to its end.
 
+ghost use Rattle.std.specs.List.{AllByRecursion};
 ghost use Rattle.std.specs.Prelude.{◌≡◌, ◌+◌, ◌≤◌, ◌<◌, ◌++◌, ◌∷◌, [], IfOk, OnOk, length};
 ghost use Rattle.csv_wrap.specs.Sound.{asked_locations, given_marks};
 ghost use Rattle.med_top.specs.Targets.{IsTargetWithin};
-ghost use Rattle.med_top.specs.Members.{Advances, AreMembers, EndsRun, idle, member_of};
+ghost use Rattle.med_top.specs.Members.{Advances, AreMembers, EndsRun, IsIdle, idle, member_of};
 
 use crate::member::read_member;
 use crate::target::Target;
@@ -31,15 +32,19 @@ pub struct GroupsRead<S> {
     pub end: RunEnd,
 }
 
-/// Reads each group's mirror, up to the first that isn't read to its end.
+/// Reads each group's mirror for an atom, up to the first that isn't read to its end. Behind a run that has ended
+/// none is opened.
 pub fn read_groups<O: Opener>(
     alloc: Global,
     opener: &mut O,
     target: &Target,
+    atom: u32,
+    end: RunEnd,
 ) -> Result<GroupsRead<O::S>, AllocError>
     requires within { IsTargetWithin target.now }
-    ensures members { IfOk result (λ read. AreMembers O.S.Source target.now.columns (O.told opener.old) 1 target.now.locations read.members) }
-    ensures ends { IfOk result (λ read. EndsRun O.S.Source target.now.columns (O.faults opener.old) (O.faults opener.new) read.members read.rows.items read.end) }
+    ensures members { IfOk result (λ read. AreMembers O.S.Source target.now.columns (O.told opener.old) atom 1 target.now.locations read.members) }
+    ensures ends { IfOk result (λ read. end ≡ RunEnd.Settled → EndsRun O.S.Source target.now.columns (O.faults opener.old) (O.faults opener.new) read.members read.rows.items read.end) }
+    ensures stays { IfOk result (λ read. (end ≡ RunEnd.Settled → ⊥) → AllByRecursion IsIdle read.members × (read.end ≡ end)) }
     ensures asked { IfOk result (λ read. O.asked opener.new ≡ O.asked opener.old ++ asked_locations read.members) }
     ensures given { IfOk result (λ read. O.given opener.new ≡ O.given opener.old ++ given_marks O.S.Source read.members) }
     ensures faults { O.faults opener.old ≤ O.faults opener.new }
@@ -48,7 +53,7 @@ pub fn read_groups<O: Opener>(
     let mut read = GroupsRead {
         members: Members::new(alloc),
         rows: Vec::new(alloc),
-        end: RunEnd::Settled,
+        end,
     };
     for (place, location) in target.locations.as_slice().iter().enumerate() {
         read_next(
@@ -56,11 +61,23 @@ pub fn read_groups<O: Opener>(
             opener,
             &mut read,
             &target.columns,
-            place as u32 + 1,
+            name_of(atom, place),
             location,
         )?;
     }
     Ok(read)
+}
+
+/// The one mirror of the group at a position.
+fn name_of(atom: u32, place: usize) -> MemberName
+    requires { place < 16 }
+    ensures { result ≡ member_of atom (place + 1) }
+{
+    MemberName {
+        atom,
+        group: place as u32 + 1,
+        mirror: 1,
+    }
 }
 
 /// Reads the next group's mirror where all before it were read to their ends, and else leaves it alone.
@@ -69,11 +86,12 @@ fn read_next<O: Opener>(
     opener: &mut O,
     read: &mut GroupsRead<O::S>,
     columns: &Columns,
-    group: u32,
+    name: MemberName,
     location: &Text,
 ) -> Result<(), AllocError>
     requires width { length columns.now ≤ 16 }
-    ensures advances { OnOk result (Advances O.S.Source columns.now (O.told opener.old) group location.now (record {
+    requires name { name ≡ member_of name.atom name.group }
+    ensures advances { OnOk result (Advances O.S.Source columns.now (O.told opener.old) name.atom name.group location.now (record {
       faults = record { old = O.faults opener.old; new = O.faults opener.new };
       asked = record { old = O.asked opener.old; new = O.asked opener.new };
       given = record { old = O.given opener.old; new = O.given opener.new };
@@ -81,11 +99,6 @@ fn read_next<O: Opener>(
     ensures faults { O.faults opener.old ≤ O.faults opener.new }
     ensures told { O.told opener.new ≡ O.told opener.old }
 {
-    let name = MemberName {
-        atom: 1,
-        group,
-        mirror: 1,
-    };
     let location = Text::from_str(alloc, location.as_str())?;
     match read.end {
         RunEnd::Settled => open_next(alloc, opener, read, columns, name, location),
@@ -104,9 +117,9 @@ fn open_next<O: Opener>(
     location: Text,
 ) -> Result<(), AllocError>
     requires width { length columns.now ≤ 16 }
-    requires name { name ≡ member_of name.group }
+    requires name { name ≡ member_of name.atom name.group }
     requires settled { read.old.end ≡ RunEnd.Settled }
-    ensures advances { OnOk result (Advances O.S.Source columns.now (O.told opener.old) name.group location (record {
+    ensures advances { OnOk result (Advances O.S.Source columns.now (O.told opener.old) name.atom name.group location (record {
       faults = record { old = O.faults opener.old; new = O.faults opener.new };
       asked = record { old = O.asked opener.old; new = O.asked opener.new };
       given = record { old = O.given opener.old; new = O.given opener.new };

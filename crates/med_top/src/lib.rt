@@ -1,6 +1,7 @@
 //! The top call of the mediator: from the words of a command to the text of an answer.
 #![tactic(auto)]
 
+mod atoms;
 mod command;
 mod finish;
 mod groups;
@@ -8,11 +9,9 @@ mod load;
 mod mediating;
 mod member;
 mod outcome;
-mod output;
-mod query;
-mod row_text;
 mod taking;
 mod target;
+mod task;
 
 pub use mediating::mediate;
 pub use outcome::Outcome;

@@ -2,11 +2,11 @@
 
 ghost use Rattle.std.specs.Prelude.{◌≡◌, ◌≤◌, IfOk};
 ghost use Rattle.cat_reader.specs.Accepted.{KeepsLimits};
-ghost use Rattle.med_top.specs.Targets.{IsTargetWithin};
+ghost use Rattle.med_top.specs.Tasks.{IsTaskWithin};
 ghost use Rattle.med_prelude.specs.Counts.{Rose};
 ghost use Rattle.med_top.specs.Loading.{AsksLoad, FetchesCatalogue, FetchesQuery, IfShelfFault, Loads, AsksName};
 
-use crate::target::{Target, TargetFault, target_in};
+use crate::task::{Task, TaskFault, task_in};
 use cat_reader::{Catalogue, CatalogueFault, read_catalogue};
 use med_base::{FetchFault, Shelf, ShelfFile};
 use med_prelude::ReadFault;
@@ -20,8 +20,8 @@ pub enum LoadFault {
     Shelf(ShelfFile),
     #[error("the catalogue is refused")]
     Catalogue { why: u8, relation: u32, item: u32 },
-    #[error("the query is of no form that is built")]
-    NotBuilt(TargetFault),
+    #[error("the query gives nothing to do")]
+    Query(TaskFault),
     #[error("out of memory")]
     NoMemory,
 }
@@ -32,8 +32,8 @@ pub fn load<H: Shelf>(
     shelf: &mut H,
     catalogue: &str,
     query: &str,
-) -> Result<Target, LoadFault>
-    ensures within { IfOk result IsTargetWithin }
+) -> Result<Task, LoadFault>
+    ensures within { IfOk result IsTaskWithin }
     ensures loads { Loads (H.told shelf.old catalogue.now) (H.told shelf.old query.now) result }
     ensures told { H.told shelf.new ≡ H.told shelf.old }
     ensures asked { AsksLoad catalogue.now query.now (H.asked shelf.old) (H.asked shelf.new) result }
@@ -41,7 +41,7 @@ pub fn load<H: Shelf>(
     ensures failed { IfShelfFault result (Rose (H.faults shelf.old) (H.faults shelf.new)) }
 {
     let relations = fetch_catalogue(alloc, shelf, catalogue)?;
-    fetch_query(alloc, shelf, query, relations)
+    fetch_query(alloc, shelf, query, &relations)
 }
 
 fn fetch_catalogue<H: Shelf>(
@@ -81,20 +81,20 @@ fn fetch_query<H: Shelf>(
     alloc: Global,
     shelf: &mut H,
     name: &str,
-    relations: Catalogue,
-) -> Result<Target, LoadFault>
-    requires limits { KeepsLimits relations }
-    ensures within { IfOk result IsTargetWithin }
-    ensures query { FetchesQuery relations (H.told shelf.old name.now) result }
+    relations: &Catalogue,
+) -> Result<Task, LoadFault>
+    requires limits { KeepsLimits relations.now }
+    ensures within { IfOk result IsTaskWithin }
+    ensures query { FetchesQuery relations.now (H.told shelf.old name.now) result }
     ensures told { H.told shelf.new ≡ H.told shelf.old }
     ensures asked { AsksName name.now (H.asked shelf.old) (H.asked shelf.new) result }
     ensures faults { H.faults shelf.old ≤ H.faults shelf.new }
     ensures failed { IfShelfFault result (Rose (H.faults shelf.old) (H.faults shelf.new)) }
 {
     match shelf.fetch(alloc, name) {
-        Ok(text) => match target_in(alloc, relations, text.as_slice()) {
-            Ok(target) => Ok(target),
-            Err(ReadFault::Broken(fault)) => Err(LoadFault::NotBuilt(fault)),
+        Ok(text) => match task_in(alloc, relations, text.as_slice()) {
+            Ok(task) => Ok(task),
+            Err(ReadFault::Broken(fault)) => Err(LoadFault::Query(fault)),
             Err(ReadFault::NoMemory) => Err(LoadFault::NoMemory),
         },
         Err(FetchFault::Failed) => Err(LoadFault::Shelf(ShelfFile::Query)),

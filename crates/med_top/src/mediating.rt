@@ -1,26 +1,26 @@
 //! The call that the program makes.
 
 ghost use Rattle.std.specs.Prelude.{◌≡◌, ◌≢◌, ◌≤◌, ◌++◌, [], ℕ, List, Option};
-ghost use Rattle.med_top.specs.Targets.{IsTargetWithin};
+ghost use Rattle.med_top.specs.Tasks.{IsTaskWithin};
 ghost use Rattle.csv_wrap.specs.Sound.{asked_locations, given_marks};
 ghost use Rattle.med_top.specs.Command.{names_of};
 ghost use Rattle.med_top.specs.Loading.{AsksSome};
 ghost use Rattle.med_top.specs.Members.{Change};
 ghost use Rattle.med_top.specs.Outcomes.{Accepts, HoldsAt, status_of};
 
+use crate::atoms::read_atoms;
 use crate::command::run_command;
 use crate::finish::finish;
-use crate::groups::read_groups;
 use crate::load::{LoadFault, load};
 use crate::outcome::Outcome;
-use crate::target::{Target, TargetFault};
+use crate::task::{Task, TaskFault};
 use med_base::{Clock, Gate, Opener, Shelf, Sink, SpillSet, Status};
 use std::alloc::Global;
 use std::thread::Threads;
 use tuple_core::Words;
 
-/// Answers the words of a command: fetches the catalogue and the query, reads the groups of the relation that
-/// is asked for, and writes the distinct rows in their order. The runtime is that which `main` is given. Spill
+/// Answers the words of a command: fetches the catalogue and the query, reads the groups of each atom's relation,
+/// and writes the rows of the answer. The runtime is that which `main` is given. Spill
 /// files, clock, gate and `err` aren't used yet.
 pub fn mediate<
     R: Threads + Sync,
@@ -67,7 +67,7 @@ pub fn mediate<
         return Outcome::without_run(alloc, Status::NotBuilt { why: 1 });
     };
     match load(alloc, shelf, catalogue, query) {
-        Ok(target) => answer(alloc, opener, out, &target),
+        Ok(task) => answer(alloc, opener, out, task),
         Err(fault) => Outcome::without_run(alloc, status_of(fault)),
     }
 }
@@ -86,22 +86,22 @@ fn status_of(fault: LoadFault) -> Status
             relation,
             item,
         },
-        LoadFault::NotBuilt(TargetFault::Query) => Status::NotBuilt { why: 3 },
-        LoadFault::NotBuilt(TargetFault::Mirrors) => Status::NotBuilt { why: 4 },
+        LoadFault::Query(TaskFault::Query { why, at }) => Status::QueryRefused { why, at },
+        LoadFault::Query(TaskFault::Mirrors) => Status::NotBuilt { why: 4 },
         LoadFault::NoMemory => Status::NoMemory,
     }
 }
 
-/// Reads the groups, and writes the rows.
+/// Reads what the atoms ask for, and writes the answer.
 fn answer<O: Opener, F, W: Sink>(
     alloc: Global,
     opener: &mut O,
     out: &mut W,
-    target: &Target,
+    task: Task,
 ) -> Outcome<O::S, F>
-    requires { IsTargetWithin target.now }
+    requires { IsTaskWithin task }
     ensures outcome { (words : List (List ℕ)) (texts : List ℕ → Option (List ℕ)) (shelf_faults : Change ℕ) (shelf_asked : Change (List (List ℕ)))
-        → Accepts words texts target.now
+        → Accepts words texts task
         → HoldsAt (record {
           source = O.S.Source;
           words = words;
@@ -118,9 +118,9 @@ fn answer<O: Opener, F, W: Sink>(
     ensures given { result.status ≢ Status.NoMemory → O.given opener.new ≡ O.given opener.old ++ given_marks O.S.Source result.members }
     ensures files { result.files ≡ [] }
 {
-    match read_groups(alloc, opener, target) {
+    match read_atoms(alloc, opener, task.targets.as_slice()) {
         Ok(read) => {
-            let status = finish(alloc, out, read.rows, read.end);
+            let status = finish(alloc, out, &task.query, read.arrivals, read.end);
             Outcome::without_files(alloc, status, read.members)
         }
         Err(_) => Outcome::without_run(alloc, Status::NoMemory),

@@ -28,8 +28,8 @@ pub fn read_member<O: Opener>(
     rows: &mut Vec<Row>,
 ) -> Result<Ran<O::S>, AllocError>
     requires width { length columns.now ≤ 16 }
-    requires name { name ≡ member_of name.group }
-    ensures member { IfOk result (λ ran. IsMemberOf O.S.Source columns.now (O.told opener.old) name.group location ran.member) }
+    requires name { name ≡ member_of name.atom name.group }
+    ensures member { IfOk result (λ ran. IsMemberOf O.S.Source columns.now (O.told opener.old) name.atom name.group location ran.member) }
     ensures ends { IfOk result (λ ran. EndsMember O.S.Source columns.now (O.faults opener.old) (O.faults opener.new) rows.old.items rows.new.items ran.member ran.end) }
     ensures asked { IfOk result (λ ran. O.asked opener.new ≡ O.asked opener.old ++ asked_locations (ran.member ∷ [])) }
     ensures given { IfOk result (λ ran. O.given opener.new ≡ O.given opener.old ++ given_marks O.S.Source (ran.member ∷ [])) }
@@ -72,12 +72,12 @@ fn read_source<S: Source>(
     rows: &mut Vec<Row>,
 ) -> Result<Ran<S>, AllocError>
     requires width { length columns.now ≤ 16 }
-    requires name { name ≡ member_of name.group }
+    requires name { name ≡ member_of name.atom name.group }
     requires location { S.location source ≡ location }
     requires fresh { IfSome (S.taken source) (λ taken. taken ≡ []) }
     requires calm { S.faults source ≡ 0 }
     requires few { S.left source ≤ 2 ^ 62 }
-    ensures member { IfOk result (λ ran. IsMemberOf S.Source columns.now (λ _. S.whole source) name.group location ran.member) }
+    ensures member { IfOk result (λ ran. IsMemberOf S.Source columns.now (λ _. S.whole source) name.atom name.group location ran.member) }
     ensures ends { IfOk result (λ ran. (old : ℕ) (new : ℕ) → EndsMember S.Source columns.now old new rows.old.items rows.new.items ran.member ran.end) }
     ensures source { IfOk result (λ ran. IsSomeAnd ran.member.source (λ s. S.mark s ≡ S.mark source)) }
 {

@@ -1,5 +1,7 @@
 //! The call on objects in memory.
 
+mod queries;
+
 use crate::{IDLE_LIMIT, Outcome, mediate};
 use med_base::{
     GroupName, MemOpener, MemShelf, MemSink, MemSource, MemSpill, MemSpills, MemberFault,
@@ -225,6 +227,24 @@ fn starves_at_the_first_group_that_fails(rt: HostRuntime) -> Result<(), Fail> {
 }
 
 #[test]
+fn bad_integer_in_the_only_mirror_starves(rt: HostRuntime) -> Result<(), Fail> {
+    let alloc = rt.alloc();
+    let catalogue = "[[relation]]\nname = \"n\"\ncolumns = [\"x:int\"]\ngroups = [[\"a\"]]\n";
+    let mut out = sink(alloc);
+    let sites = [Csv("a", "x\n7\n12.5\n9\n", &[])];
+    let outcome = run(&rt, alloc, (catalogue, NUMBERS), &sites, &mut out)?;
+    let group = GroupName { atom: 1, group: 1 };
+    assert_eq!(rt; outcome.status, Status::Starved { group });
+    assert!(rt; out.bytes().is_empty());
+    assert_eq!(rt; outcome.members.as_slice().len(), 1);
+    let member = &outcome.members.as_slice()[0];
+    let fault = MemberFault::BadField { k: 2, column: 0 };
+    assert_eq!(rt; member.fault, Some(fault));
+    assert_eq!(rt; (member.state, member.accepted), (MemberState::Failed, 1));
+    Ok(())
+}
+
+#[test]
 fn stalls_where_nothing_comes(rt: HostRuntime) -> Result<(), Fail> {
     let alloc = rt.alloc();
     let mut out = sink(alloc);
@@ -284,13 +304,11 @@ fn texts_are_refused(rt: HostRuntime) -> Result<(), Fail> {
         ("", QUERY, refused(2)),
         (no_columns, QUERY, refused(2)),
         (no_groups, QUERY, refused(6)),
-        (CATALOGUE, "q(x) :- town(x).", Status::NotBuilt { why: 3 }),
         (
-            CATALOGUE,
-            "q(x, y) :- city(x, y).",
-            Status::NotBuilt { why: 3 },
+            two_mirrors,
+            "q(x) :- town(x).",
+            Status::QueryRefused { why: 2, at: 8 },
         ),
-        (two_mirrors, "q(x) :- town(x).", Status::NotBuilt { why: 3 }),
         (two_mirrors, QUERY, Status::NotBuilt { why: 4 }),
     ] {
         let mut out = sink(alloc);

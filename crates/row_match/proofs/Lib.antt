@@ -5,3 +5,4 @@ pub mod Preparing
 pub mod Gathering
 pub mod Keys
 pub mod Telling
+pub mod Reading

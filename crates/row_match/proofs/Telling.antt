@@ -3,6 +3,7 @@ use Rattle.std.proofs.Common.{◌≡◌, ℕ, suc, ◌≤◌, Bool, true, false,
 use Rattle.std.specs.List.{cons_option, filter_map, list_all, AllByRecursion}
 use Rattle.std.specs.Option.{is_some, IfSome}
 use Rattle.std.proofs.lemmas.Bool.{false≢true, and_parts, and_from, or_right}
+use Rattle.std.proofs.lemmas.List.{length-map}
 use Rattle.answer_theory.specs.Bindings.{Binding, bound, consistent, meet, value_of, firsts}
 use Rattle.answer_theory.specs.Solutions.{names, key}
 use Rattle.answer_theory.specs.Rows.{over, values, named, AreDistinct, each_once, shared, both_join}
@@ -37,6 +38,13 @@ pub matched_binds : (ts : List Term) (row r : List Value) → length row ≡ len
 matched_binds ts row r e m =
     ap₂ over (ap each_once (sym (places_named ts row e)) ∙ sym (named_firsts (places_of ts row))) (sym (where_some (fits ts row && consistent values_join (places_of ts row)) (values (firsts (places_of ts row))) r m))
     ∙ over_named (firsts (places_of ts row))
+
+pub matched_width : (ts : List Term) (row r : List Value) → length row ≡ length ts → matched ts row ≡ Some r → length r ≡ length (pattern_variables ts)
+matched_width ts row r e m =
+    let kept : Binding Value = firsts (places_of ts row) in
+    ap length (sym (where_some (fits ts row && consistent values_join (places_of ts row)) (values kept) r m))
+    ∙ length-map kept (λ p. p.1) ∙ sym (length-map kept (λ p. p.0))
+    ∙ ap length (named_firsts (places_of ts row) ∙ ap each_once (places_named ts row e))
 
 -- ---- keys
 

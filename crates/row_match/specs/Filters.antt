@@ -1,10 +1,11 @@
 -- Comparisons of what a row binds.
-use Rattle.std.specs.Prelude.{ℕ, Bool, false, List, Option, Some, None}
+use Rattle.std.specs.Prelude.{ℕ, Bool, false, List, [], ◌∷◌, flat_map, Option, Some, None}
 use Rattle.std.specs.List.{list_all}
 use Rattle.answer_theory.specs.Bindings.{Binding, value_of}
 use Rattle.tuple_core.specs.Comparing.{compares}
 use Rattle.tuple_core.specs.declared.comparing.Op.{Op}
 use Rattle.tuple_core.specs.declared.value.Value.{Value}
+use Rattle.row_match.specs.Patterns.{term_variables}
 use Rattle.row_match.specs.declared.filter.Comparison.{Comparison}
 use Rattle.row_match.specs.declared.pattern.Term.{Term}
 use Rattle.row_match.specs.declared.pattern.Term.TheVariants as term
@@ -30,3 +31,7 @@ holds_in c b = both_compare c.op (side_value c.left b) (side_value c.right b)
 
 abbrev pub all_hold : List Comparison → Binding Value → Bool
 all_hold cs b = list_all (λ c. holds_in c b) cs
+
+-- the variables that comparisons read
+abbrev pub comparison_variables : List Comparison → List ℕ
+comparison_variables cs = flat_map (λ c. term_variables (c.left ∷ c.right ∷ [])) cs

@@ -12,7 +12,7 @@ mod tests;
 mod vars;
 
 pub use filter::{Comparison, Filter};
-pub use laws::{keys_tell, matched_rows_bind};
+pub use laws::{filters_read, keys_tell, matched_rows_bind};
 pub use pattern::{Pattern, Term};
 pub use shape::{JoinShape, Side};
 pub use vars::Vars;

@@ -1,6 +1,9 @@
 pub mod Back
+pub mod Digits
 pub mod Numerals
+pub mod Ranks
 pub mod Sound
+pub mod TextBytes
 pub mod ValueByValue
 pub mod Weighing
 pub mod Keyed

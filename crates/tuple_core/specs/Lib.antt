@@ -4,6 +4,7 @@ pub mod Distinct
 pub mod Encoding
 pub mod Order
 pub mod Parsing
+pub mod Ranks
 pub mod RowText
 pub mod Values
 pub use Rattle.med_prelude.specs.Texts

@@ -42,7 +42,7 @@ rows_total = lists_total values_total
 pub rows_equiv : IsEquivalence row_eq
 rows_equiv = lists_equiv equal_laws.laws-law
 
-values_tie : (x y : Value) → value_eq x y ≡ eq_by_cmp value_cmp x y
+pub values_tie : (x y : Value) → value_eq x y ≡ eq_by_cmp value_cmp x y
 values_tie x y = order_laws.matches_eq-law x y ∙ ap is_eq (derived x y)
 
 pub rows_tie : (xs ys : List Value) → row_eq xs ys ≡ eq_by_cmp row_cmp xs ys

@@ -10,6 +10,8 @@ mod hashing;
 mod keys;
 mod laws;
 mod parsing;
+mod ranked;
+mod ranking;
 mod row;
 #[cfg(test)]
 mod tests;

@@ -8,5 +8,6 @@ returns-clause-advances g c = record {
   is_member = c.in_ok-ran.ensures.member;
   asked = c.in_ok-ran.ensures.asked;
   given = c.in_ok-ran.ensures.given;
+  stays = λ stopped. absurd (stopped c.requires.settled);
   ends = λ first lower so_far. rw (c.in_ok-push.ensures.ok) (run_on _ _ first _ _ _ _ _ _ _ lower (rw (c.requires.settled) at so_far) c.in_ok-ran.ensures.ends);
 }

@@ -11,7 +11,7 @@ returns-in-Ok-clause-outcome g c = c.answer.ensures.outcome _ _ _ _ (record {
 })
 
 pub returns-in-Ok-clause-asked : goal.returns-in-Ok-clause-asked
-returns-in-Ok-clause-asked g c = load_asked _ _ c.args.words.now _ _ (Ok c.in-Ok.target) (sym c.in-Some.ensures) c.in-Ok.ensures.asked
+returns-in-Ok-clause-asked g c = load_asked _ _ c.args.words.now _ _ (Ok c.in-Ok.task) (sym c.in-Some.ensures) c.in-Ok.ensures.asked
 
 pub returns-in-Err-clause-asked : goal.returns-in-Err-clause-asked
 returns-in-Err-clause-asked g c = load_asked _ _ c.args.words.now _ _ (Err c.in-Err.fault) (sym c.in-Some.ensures) c.in-Err.ensures.asked

@@ -1,5 +1,8 @@
-use Rattle.row_match.proofs.Telling.{matched_binds}
+use Rattle.row_match.proofs.Telling.{matched_binds, matched_width}
 use Rattle.row_match.proofs.laws.matched_rows_bind.Goals as goal
 
-pub returns : goal.returns
-returns c = matched_binds
+pub returns-clause-places : goal.returns-clause-places
+returns-clause-places c = matched_binds
+
+pub returns-clause-width : goal.returns-clause-width
+returns-clause-width c = matched_width

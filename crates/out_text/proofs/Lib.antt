@@ -1,0 +1,2 @@
+pub mod RowTextLaws
+pub mod WritingLaws

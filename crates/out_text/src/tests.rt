@@ -1,0 +1,59 @@
+//! Texts written to a sink in memory, with expected bytes by hand.
+
+ghost use Rattle.std.specs.Prelude.{IfOk};
+ghost use Rattle.tuple_core.specs.Values.{FitsRow, FitsValue};
+
+use super::*;
+use med_base::{MemSink, SinkFault};
+use std::alloc::{AllocError, Global};
+use std::test::Fail;
+use tuple_core::{Kind, Row, Rows, Value, parse_value};
+
+fn text(alloc: Global, text: &str) -> Result<Value, AllocError>
+    ensures { IfOk result FitsValue }
+{
+    parse_value(alloc, Kind::Text, text.as_bytes())?.ok_or(AllocError)
+}
+
+fn mixed(alloc: Global) -> Result<Rows, AllocError> {
+    let mut rows = Rows::new(alloc);
+    rows.push(Row::new(vec![in alloc;
+        text(alloc, "Inn, \"Old\"")?,
+        Value::Int(-7),
+        Value::Bool(true),
+    ]?))?;
+    rows.push(Row::new(vec![in alloc; text(alloc, "")?]?))?;
+    rows.push(Row::new(vec![in alloc; text(alloc, "a\nb")?, Value::Int(0), Value::Bool(false)]?))?;
+    Ok(rows)
+}
+
+const LINES: &[u8] = b"\"Inn, \"\"Old\"\"\",-7,true\n\"\"\n\"a\nb\",0,false\n";
+
+#[test]
+fn quotes_where_it_is_needed(rt: HostRuntime) -> Result<(), Fail> {
+    let rows = mixed(rt.alloc())?;
+    for most in [1, 2, 3, 1000] {
+        let mut sink = MemSink::new(rt.alloc(), most, Vec::new(rt.alloc()));
+        write_rows(rt.alloc(), &rows, &mut sink).or(Err(AllocError))?;
+        assert_eq!(rt; sink.bytes(), LINES, "{most:?}");
+    }
+    Ok(())
+}
+
+#[test]
+fn writes_nothing_for_no_rows(rt: HostRuntime) -> Result<(), Fail> {
+    let mut sink = MemSink::new(rt.alloc(), 4, Vec::new(rt.alloc()));
+    write_rows(rt.alloc(), &Rows::new(rt.alloc()), &mut sink).or(Err(AllocError))?;
+    assert_eq!(rt; sink.bytes(), b"".as_slice());
+    Ok(())
+}
+
+#[test]
+fn leaves_a_prefix_where_the_sink_fails(rt: HostRuntime) -> Result<(), Fail> {
+    let rows = mixed(rt.alloc())?;
+    let mut sink = MemSink::new(rt.alloc(), 5, vec![in rt.alloc(); 2]?);
+    let wrote = write_rows(rt.alloc(), &rows, &mut sink);
+    assert!(rt; matches!(wrote, Err(SinkFault::Failed)));
+    assert_eq!(rt; sink.bytes(), b"\"Inn, \"\"Ol".as_slice());
+    Ok(())
+}

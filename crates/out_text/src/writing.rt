@@ -1,0 +1,26 @@
+//! Writes the rows of an answer.
+
+ghost use Rattle.std.specs.Prelude.{◌≡◌, ℕ, ◌≤◌, OnOk, OnErr, take};
+ghost use Rattle.med_base.specs.Outside.{IfFailed};
+ghost use Rattle.med_prelude.specs.Counts.{Rose};
+ghost use Rattle.med_prelude.specs.Texts.{grown};
+ghost use Rattle.tuple_core.specs.RowText.{rows_text};
+
+use crate::output::write_all;
+use crate::row_text::text_of_rows;
+use med_base::{Sink, SinkFault};
+use std::alloc::Global;
+use tuple_core::Rows;
+
+/// Writes a line of CSV for each row. Where that fails, a prefix of the text is written.
+pub fn write_rows<W: Sink>(alloc: Global, rows: &Rows, out: &mut W) -> Result<(), SinkFault>
+    ensures ok { OnOk result (W.written out.new ≡ grown (W.written out.old) (rows_text rows.now)) }
+    ensures err { OnErr result ((n : ℕ) × (W.written out.new ≡ grown (W.written out.old) (take n (rows_text rows.now)))) }
+    ensures faults { W.faults out.old ≤ W.faults out.new }
+    ensures failed { IfFailed result (Rose (W.faults out.old) (W.faults out.new)) }
+{
+    match text_of_rows(alloc, rows.as_slice()) {
+        Ok(text) => write_all(alloc, out, text.as_slice()),
+        Err(_) => Err(SinkFault::NoMemory),
+    }
+}

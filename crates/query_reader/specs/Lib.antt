@@ -1,0 +1,8 @@
+pub mod Answers
+pub mod Named
+pub mod Parts
+pub mod Kinds
+pub mod Directories
+pub mod Checks
+pub mod Reading
+pub mod Fitting

@@ -1,0 +1,32 @@
+use Rattle.std.proofs.Common.{length, arith, ap}
+use Rattle.query_syntax.proofs.ReadingLaws.{keeps_blank, keeps_end, keeps_step, keeps_stuck, step_fits}
+use Rattle.query_syntax.proofs.reading.read_tokens.Goals as goal
+
+pub loop-first-preserved-then-is_blank : goal.loop-first-preserved-then-is_blank
+loop-first-preserved-then-is_blank c = record {
+  same = keeps_blank _ _ _ _ _ _ _ c.in-Some.ensures.cases.0 c.if-is_blank.ensures c.loop-first.invariant.same;
+  place = omega (arith, c.loop-first.invariant.place, ap length c.in-Some.ensures.cases.0);
+}
+
+pub returns-in-Ok-None : goal.returns-in-Ok-None
+returns-in-Ok-None c = keeps_stuck _ _ _ _ _ _ _ _ c.in-Some.ensures.cases.0 c.if-is_blank.ensures c.in-Ok-None.ensures c.in-Ok-None.field-0-is c.loop-first.invariant.same
+
+pub split_at-requires : goal.split_at-requires
+split_at-requires c = (step_fits _ _ _ _ _ _ c.in-Ok-Some.ensures c.in-Ok-Some.field-0-is).1
+
+pub loop-first-smaller : goal.loop-first-smaller
+loop-first-smaller c =
+    let within = step_fits _ _ _ _ _ _ c.in-Ok-Some.ensures c.in-Ok-Some.field-0-is in
+    omega (arith, within, c.split_at.ensures.back_len)
+
+pub loop-first-preserved : goal.loop-first-preserved
+loop-first-preserved c = record {
+  same = keeps_step _ _ _ _ _ _ _ _ _ _ _ c.in-Some.ensures.cases.0 c.if-is_blank.ensures c.in-Ok-Some.ensures c.in-Ok-Some.field-0-is c.split_at.ensures.back c.loop-first.invariant.same;
+  place = omega (arith, c.split_at.ensures.back_len, c.loop-first.invariant.place);
+}
+
+pub returns-in-Some-finished : goal.returns-in-Some-finished
+returns-in-Some-finished c = keeps_end _ _ _ _ _ _ c.in_default.ensures.cases c.loop-first.invariant.place c.in-Some-finished.ensures c.loop-first.invariant.same
+
+pub returns-in-None : goal.returns-in-None
+returns-in-None c = keeps_end _ _ _ _ _ _ c.in_default.ensures.cases c.loop-first.invariant.place c.in-None.ensures c.loop-first.invariant.same

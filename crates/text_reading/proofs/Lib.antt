@@ -1,0 +1,7 @@
+pub mod OrderLaws
+pub mod CheckLaws
+pub mod RunLaws
+pub mod NameLaws
+pub mod QuoteLaws
+pub mod LexingLaws
+pub mod MachineLaws

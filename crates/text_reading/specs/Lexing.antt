@@ -1,0 +1,46 @@
+-- The tokens of a text with their places.
+use Rattle.std.specs.Prelude.{◌≡◌, ◌⊎◌, true, false, not, take, drop, ℕ, zero, suc, ◌+◌, ◌-◌, Bool, List, [], ◌∷◌, map, Option, Some, None, if◌then◌else◌}
+use Rattle.std.specs.List.{list_all}
+
+-- what a grammar takes for blanks, the token that bytes at a place begin with and its length, and what stands for bytes that are no token
+pub record Lexicon (T : Type 0) : Type 0 where
+  pub is_blank : ℕ → Bool
+  pub token_at : ℕ → List ℕ → Option (T × ℕ)
+  pub junk : T
+
+-- a token and the place of its first byte
+pub record Lexeme (T : Type 0) : Type 0 where
+  pub token : T
+  pub at : ℕ
+
+abbrev pub lexeme : {T : Type 0} → T → ℕ → Lexeme T
+lexeme t place = record { token = t; at = place }
+
+abbrev pub tokens : {T : Type 0} → List (Lexeme T) → List T
+tokens = map (λ l. l.token)
+
+-- The tokens of bytes that stand at a place, of which so many at the front belong to an earlier token.
+-- Where no token begins there is junk, and nothing is read after it.
+abbrev pub lexes : {T : Type 0} → Lexicon T → ℕ → ℕ → List ℕ → List (Lexeme T)
+lexes x skip at [] = []
+lexes x (suc skip) at (b ∷ bytes) = lexes x skip (at + 1) bytes
+lexes x zero at (b ∷ bytes) =
+    if x.is_blank b then lexes x zero (at + 1) bytes
+    else elim (x.token_at at (b ∷ bytes)) [
+      | None ↦ lexeme x.junk at ∷ []
+      | Some read ↦ lexeme read.0 at ∷ lexes x (read.1 - 1) (at + 1) bytes
+    ]
+
+-- the first byte is no blank
+abbrev pub begins_dark : {T : Type 0} → Lexicon T → List ℕ → Bool
+begins_dark x [] = false
+begins_dark x (b ∷ bytes) = not (x.is_blank b)
+
+-- Blanks, then the token that the bytes begin with, and so on, and blanks at the end. Bytes that are no token are
+-- the last.
+abbrev pub AreTokensOf : {T : Type 0} → Lexicon T → ℕ → List ℕ → List (Lexeme T) → Type 0
+AreTokensOf x place bytes [] = list_all x.is_blank bytes ≡ true
+AreTokensOf x place bytes (l ∷ ls) =
+    (blanks : ℕ) × (list_all x.is_blank (take blanks bytes) ≡ true) × (begins_dark x (drop blanks bytes) ≡ true) × (l.at ≡ place + blanks)
+    × (((len : ℕ) × (x.token_at l.at (drop blanks bytes) ≡ Some (l.token, len)) × AreTokensOf x (l.at + len) (drop len (drop blanks bytes)) ls)
+    ⊎ ((x.token_at l.at (drop blanks bytes) ≡ None) × (l.token ≡ x.junk) × (ls ≡ [])))

@@ -1,0 +1,7 @@
+pub mod Order
+pub mod Checks
+pub mod Runs
+pub mod Quoted
+pub mod Lexing
+pub mod Grammars
+pub mod Machines
