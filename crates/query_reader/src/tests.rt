@@ -14,7 +14,7 @@ use std::test::Fail;
 use text_reading::Broken;
 use tuple_core::{Op, Value};
 
-/// The relations `r(x:int, y:int)`, `s(y:int, z:text)`, `city(x:text)` and `flag(b:bool)`.
+/// The relations `r(x:int, y:int)`, `s(y:int, z:text)`, `city(x:text)`, `flag(b:bool)`, and `wide` of 16 integers.
 fn catalogue(alloc: Global) -> Result<Catalogue, Fail> {
     let text = br#"
 [[relation]]
@@ -33,6 +33,10 @@ groups = [["city.csv"]]
 name = "flag"
 columns = ["b:bool"]
 groups = [["flag.csv"]]
+[[relation]]
+name = "wide"
+columns = ["a:int", "b:int", "c:int", "d:int", "e:int", "f:int", "g:int", "h:int", "i:int", "j:int", "k:int", "l:int", "m:int", "n:int", "o:int", "p:int"]
+groups = [["wide.csv"]]
 "#;
     read_catalogue(alloc, text).map_err(|_| Fail::from("the catalogue is refused"))
 }

@@ -4,6 +4,7 @@ use Rattle.med_prelude.specs.Names.{continues_name, is_truth_word, starts_name}
 use Rattle.tuple_core.specs.declared.comparing.Op.{Op}
 use Rattle.query_syntax.specs.Grammar.{IsReal, Viable, query}
 use Rattle.query_syntax.specs.Machine.{comparison, step, syntax_in, variable, with_part, with_term, with_variable}
+use Rattle.query_syntax.specs.Tokens.{truth_in}
 use Rattle.query_syntax.specs.declared.machine.Body.{Body}
 use Rattle.query_syntax.specs.declared.machine.Head.{Head}
 use Rattle.query_syntax.specs.declared.machine.State.{State}
@@ -21,7 +22,7 @@ abbrev x : Word
 x = record { name = 120 ∷ []; at = 0 }
 
 real_x : IsReal (Name x)
-unfolding starts_name continues_name is_truth_word
+unfolding starts_name continues_name is_truth_word truth_in
 real_x = record { at = 0; bytes = 120 ∷ []; spelt = refl }
 
 real_open : IsReal Open

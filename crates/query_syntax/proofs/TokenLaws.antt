@@ -10,7 +10,7 @@ use Rattle.tuple_core.specs.declared.columns.Kind.TheVariants as kind
 use Rattle.tuple_core.specs.declared.comparing.Op.{Op}
 use Rattle.tuple_core.specs.declared.comparing.Op.TheVariants as op
 use Rattle.tuple_core.specs.declared.value.Value.{Value}
-use Rattle.query_syntax.specs.Tokens.{constant_at, integer_at, mark_at, name_at, operator_at, sign_at, text_at, token_at, word_at}
+use Rattle.query_syntax.specs.Tokens.{constant_at, integer_at, mark_at, name_at, operator_at, sign_at, text_at, token_at, truth_in, word_at}
 use Rattle.query_syntax.specs.declared.token.Token.{Token}
 use Rattle.query_syntax.specs.declared.token.Token.TheVariants as token
 
@@ -34,8 +34,9 @@ name_within bytes at len some in_bytes None = none_within bytes
 name_within bytes at len some in_bytes (Some n) = record { fits = (some, in_bytes) }
 
 word_within : (at : ℕ) (run : List ℕ) → IsWithin run (word_at at run)
+unfolding truth_in
 word_within at [] = none_within []
-word_within at (b ∷ run) = by (parsed kind.Bool (b ∷ run))
+word_within at (b ∷ run) = by (truth_in (b ∷ run))
   where
     by : (value : Option Value) → IsWithin (b ∷ run) (elim value [ Some v ↦ constant_at at (length (b ∷ run)) (Some v) | None ↦ name_at at (length (b ∷ run)) (name_in (b ∷ run)) ])
     by None = name_within (b ∷ run) at (length (b ∷ run)) (omega arith) (omega arith) (name_in (b ∷ run))

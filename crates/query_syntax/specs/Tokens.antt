@@ -22,9 +22,13 @@ abbrev pub name_at : ℕ → ℕ → Option (List ℕ) → Option (Token × ℕ)
 name_at at len None = None
 name_at at len (Some name) = Some (token.Name (record { name = name; at = at }), len)
 
+-- the truth value that a run is
+unfoldable pub truth_in : List ℕ → Option Value
+truth_in run = parsed kind.Bool run
+
 -- a run of letters, digits and `_`: a truth value or a name
 abbrev pub word_at : ℕ → List ℕ → Option (Token × ℕ)
-word_at at run = elim (parsed kind.Bool run) [
+word_at at run = elim (truth_in run) [
   | Some value ↦ constant_at at (length run) (Some value)
   | None ↦ name_at at (length run) (name_in run)
 ]

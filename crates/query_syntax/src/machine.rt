@@ -79,17 +79,7 @@ pub fn finished(state: State) -> Option<Syntax>
 {
     match state {
         State::Done(syntax) => Some(syntax),
-        State::Start
-        | State::Named(_)
-        | State::HeadStart(_)
-        | State::HeadEnd(_)
-        | State::HeadClosed(_)
-        | State::PartStart(_)
-        | State::PartNamed(_, _)
-        | State::TermStart(_, _)
-        | State::TermEnd(_, _)
-        | State::Compared(_, _, _)
-        | State::PartEnd(_) => None,
+        _ => None,
     }
 }
 

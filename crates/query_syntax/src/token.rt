@@ -2,7 +2,7 @@
 
 ghost use Rattle.std.specs.Prelude.{◌≡◌, IfOk};
 ghost use Rattle.tuple_core.specs.Parsing.{parsed};
-ghost use Rattle.query_syntax.specs.Tokens.{constant_at, integer_at, mark_at, operator_at, sign_at, text_at, token_at, word_at};
+ghost use Rattle.query_syntax.specs.Tokens.{constant_at, integer_at, mark_at, operator_at, sign_at, text_at, token_at, truth_in, word_at};
 
 use crate::syntax::Word;
 use med_prelude::starts_name;
@@ -46,11 +46,18 @@ pub fn token_at(alloc: Global, at: u64, bytes: &[u8]) -> Result<Option<(Token, u
     }
 }
 
+#[tactic(auto, unfolding(crate::specs::Tokens::truth_in))]
+fn truth_in(alloc: Global, run: &[u8]) -> Result<Option<Value>, AllocError>
+    ensures { IfOk result (λ value. value ≡ truth_in run.now) }
+{
+    parse_value(alloc, Kind::Bool, run)
+}
+
 /// A truth value or a name, from the whole run of letters, digits and `_`.
 fn word_at(alloc: Global, at: u64, run: &[u8]) -> Result<Option<(Token, usize)>, AllocError>
     ensures { IfOk result (λ read. read ≡ word_at at run.now) }
 {
-    match parse_value(alloc, Kind::Bool, run)? {
+    match truth_in(alloc, run)? {
         Some(value) => Ok(Some((Token::Constant(value, at), run.len()))),
         None => match name_in(alloc, run)? {
             Some(name) => Ok(Some((Token::Name(Word { name, at }), run.len()))),
