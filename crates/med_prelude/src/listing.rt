@@ -1,8 +1,9 @@
 //! One list type for every layer: a vector that contracts see as the list of its items.
 
 ghost use Rattle.std.specs.Prelude.{◌≡◌, ◌==◌, [], ◌∷◌, ◌++◌, length, IfOk, IfErr, OnOk, OnErr};
+ghost use Rattle.med_prelude.specs.Lists.{IsCopyOf};
 
-use std::alloc::{AllocFailed, Global};
+use std::alloc::{AllocError, AllocFailed, Global};
 use std::marker::Model;
 
 /// A list of items. It is made of a vector, and gives it back, without taking memory.
@@ -66,5 +67,15 @@ impl<T> Listed<T> {
         ensures value_returned { IfErr result (λ failed. failed.value ≡ item) }
     {
         self.vector.push(item)
+    }
+}
+
+impl<T: Clone> Clone for Listed<T> {
+    ghost is_clone = { IsCopyOf T.is_clone };
+
+    fn clone(&self) -> Result<Listed<T>, AllocError> {
+        Ok(Listed {
+            vector: self.vector.clone()?,
+        })
     }
 }

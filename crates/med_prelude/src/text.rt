@@ -66,6 +66,16 @@ impl Text {
     }
 }
 
+impl Clone for Text {
+    ghost is_clone = { λ text copy. copy ≡ text };
+
+    fn clone(&self) -> Result<Text, AllocError> {
+        Ok(Text {
+            string: self.string.clone()?,
+        })
+    }
+}
+
 impl PartialEq for Text {
     ghost eq = { pointwise nat_eq };
 

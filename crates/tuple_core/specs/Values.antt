@@ -11,6 +11,14 @@ use Rattle.med_prelude.specs.Texts.{IsText}
 use Rattle.tuple_core.specs.declared.value.Value.{Value}
 use Rattle.tuple_core.specs.declared.value.Value.TheVariants as value
 
+-- a row: its values, in order
+abbrev pub RowValues : Type 0
+RowValues = List Value
+
+-- rows, in order
+abbrev pub RowList : Type 0
+RowList = List RowValues
+
 -- an integer of 64 bits, a text of at most 65,536 bytes, or a truth value
 abbrev pub FitsValue : Value → Type 0
 FitsValue (value.Int z) = FitsSigned w64 z
