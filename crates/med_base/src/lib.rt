@@ -4,15 +4,13 @@
 //! and `files` has thin adapters over real files and streams.
 #![tactic(auto)]
 
-mod bookkeeping;
-mod files;
+pub mod bookkeeping;
 mod member;
 mod memory;
 mod names;
 mod outside;
 mod status;
 
-pub use files::{FileOpener, FileShelf, FileSource, FileSpill, FileSpills, RealClock, StdSink};
 pub use member::{MemberFault, MemberState};
 pub use memory::{
     CalmOpener, CalmSource, CalmSpill, CalmSpills, MemOpener, MemShelf, MemSink, MemSource,

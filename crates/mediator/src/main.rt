@@ -1,8 +1,9 @@
 //! The program `mediator`: makes the real objects of the outside, and calls the mediator.
 #![tactic(auto)]
 
-use med_base::{FileOpener, FileShelf, FileSpills, NoGate, RealClock, Sink, Status, StdSink};
+use med_base::{NoGate, Sink, Status};
 use med_top::mediate;
+use real_outside::{FileOpener, FileShelf, FileSpills, RealClock, StdSink};
 use std::alloc::AllocError;
 use std::os::unix::fs::FileExt;
 use std::process::ExitCode;

@@ -1,10 +1,7 @@
-//! Spill files in memory and over real files.
+//! Spill files in memory.
 
-use super::scratch;
-use crate::{CalmSpills, FileSpills, Files, MemSpills, Spill, SpillFault, SpillScript, SpillSet};
-use med_prelude::Text;
+use crate::{CalmSpills, Files, MemSpills, Spill, SpillFault, SpillScript, SpillSet};
 use std::alloc::{AllocError, Global};
-use std::fs;
 use std::process::Abort;
 use std::test::Fail;
 
@@ -86,29 +83,5 @@ fn calm_set_makes_files_of_their_own_limits(rt: HostRuntime) -> Result<(), Fail>
         append_each(&rt, rt.alloc(), &mut file, &[(b"abcd", Ok(0))]);
         read_each(&rt, &mut file, &[(1, Ok(3), b"bcd.")]);
     }
-    Ok(())
-}
-
-#[test]
-fn spill_files_leave_no_trace(rt: HostRuntime) -> Result<(), Fail> {
-    let folder = scratch(&rt, "spills")?;
-    fs::create_dir(&rt, folder.as_path())?;
-    let name = Text::from_str(rt.alloc(), folder.as_path().as_str())?;
-    let mut spills = FileSpills::new(rt.alloc(), &rt, name);
-    let mut first = spills.make(rt.alloc(), 0, 6)?;
-    let mut second = spills.make(rt.alloc(), 1, 6)?;
-    let entries = fs::read_dir(&rt, folder.as_path())?.count();
-    fs::remove_dir(&rt, folder.as_path())?;
-    assert_eq!(rt; entries, 0, "while the files are open");
-    assert!(rt; spills.make(rt.alloc(), 2, 6).is_err(), "no such folder");
-    append_each(&rt, rt.alloc(), &mut first, &[(b"abc", Ok(0))]);
-    append_each(&rt, rt.alloc(), &mut second, &[(b"x", Ok(0))]);
-    append_each(
-        &rt,
-        rt.alloc(),
-        &mut first,
-        &[(b"def", Ok(3)), (b"g", full(1, 6))],
-    );
-    read_each(&rt, &mut first, &[(1, Ok(4), b"bcde"), (5, Ok(1), b"fcde")]);
     Ok(())
 }

@@ -2,8 +2,8 @@
 
 ghost use Rattle.std.specs.Prelude.{◌≡◌, None};
 
-use crate::bookkeeping::Readings;
-use crate::outside::Clock;
+use med_base::Clock;
+use med_base::bookkeeping::Readings;
 use std::time::Duration;
 use std::{rt, thread};
 

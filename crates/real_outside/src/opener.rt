@@ -2,8 +2,8 @@
 
 ghost use Rattle.std.specs.Prelude.{◌≡◌, ◌+◌, ◌≤◌, ◌^◌, [], None, IfOk};
 
-use crate::bookkeeping::{fault_of, note_asked};
-use crate::outside::{OpenFault, Opener, Pull, Source};
+use med_base::bookkeeping::{fault_of, note_asked};
+use med_base::{OpenFault, Opener, Pull, Source};
 use med_prelude::{Listed, Text, raise};
 use std::alloc::Global;
 use std::fs;

@@ -2,8 +2,8 @@
 
 ghost use Rattle.std.specs.Prelude.{◌≡◌, ◌≤◌, [], length, None, IfOk};
 
-use crate::bookkeeping::{fault_of, note_asked};
-use crate::outside::{FETCHED_MOST, FetchFault, Shelf};
+use med_base::bookkeeping::{fault_of, note_asked};
+use med_base::{FETCHED_MOST, FetchFault, Shelf};
 use med_prelude::{Listed, Text};
 use std::alloc::Global;
 use std::io::Read;

@@ -2,8 +2,8 @@
 
 ghost use Rattle.std.specs.Prelude.{◌≡◌, None};
 
-use crate::bookkeeping::{counted_fault, fault_of};
-use crate::outside::{Sink, SinkFault};
+use med_base::bookkeeping::{counted_fault, fault_of};
+use med_base::{Sink, SinkFault};
 use std::alloc::Global;
 use std::io::Write;
 

@@ -3,8 +3,8 @@
 ghost use Rattle.std.specs.Prelude.{◌≡◌, ◌≤◌, []};
 ghost use Rattle.med_base.specs.Spills.{Untold};
 
-use crate::bookkeeping::{counted_fault, end_within, fault_of};
-use crate::outside::{Spill, SpillFault, SpillSet};
+use med_base::bookkeeping::{counted_fault, end_within, fault_of};
+use med_base::{Spill, SpillFault, SpillSet};
 use med_prelude::{Listed, Text};
 use std::alloc::Global;
 use std::fs::OpenOptions;
