@@ -1,4 +1,4 @@
--- The first broken check is told, at the least of its places.
+-- The first broken check is told, at the least that breaks it.
 use Rattle.std.proofs.Common.{Bool, List, [], ◌∷◌, Option, Some, None, refl, inl, inr}
 use Rattle.text_reading.specs.Checks.{Check, IsExact, IsKept, first_broken, told_first}
 use Rattle.text_reading.specs.Order.{IsOrder, least}

@@ -1,5 +1,6 @@
 pub mod OrderLaws
 pub mod CheckLaws
+pub mod FaultLaws
 pub mod RunLaws
 pub mod NameLaws
 pub mod QuoteLaws

@@ -53,7 +53,7 @@ module _ {A : Type 0} (up_to : A → A → Bool) (order : IsOrder up_to) where
   least_is_least [] = refl
   least_is_least (x ∷ xs) = lesser_is_least x xs (least up_to xs) (least_is_least xs)
 
--- Places that are made from others, in the same order.
+-- Values that are made from others, in the same order.
 module _ {A B : Type 0} (up_to : A → A → Bool) (made_up_to : B → B → Bool) (make : A → B) (keeps : (x y : A) → made_up_to (make x) (make y) ≡ up_to x y) where
   two : (x y : A) (b : Bool) → up_to x y ≡ b → lesser made_up_to (Some (make x)) (Some (make y)) ≡ option_map make (lesser up_to (Some x) (Some y))
   two x y true e = rw (keeps x y, e) refl

@@ -1,5 +1,6 @@
 pub mod Order
 pub mod Checks
+pub mod Faults
 pub mod Runs
 pub mod Quoted
 pub mod Lexing

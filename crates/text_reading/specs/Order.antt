@@ -1,4 +1,4 @@
--- The least of places, by a test of their order.
+-- The least of several, by a test of their order.
 use Rattle.std.specs.Prelude.{◌≡◌, nat_le, Bool, true, false, List, [], ◌∷◌, Option, Some, None, if◌then◌else◌}
 use Rattle.std.proofs.Common.{arith}
 use Rattle.std.proofs.lemmas.Bool.Decides.{nat_tests}

@@ -2,9 +2,9 @@
 use Rattle.std.specs.Prelude.{◌≡◌, ℕ, ◌+◌, ◌≤◌, ◌==◌, Bool, false, List, [], ◌∷◌, ◌++◌, length, take, drop, Option, Some, None, if◌then◌else◌}
 
 -- the bytes with each quote doubled
-abbrev pub doubled : List ℕ → List ℕ
-doubled [] = []
-doubled (b ∷ bytes) = if b == 34 then 34 ∷ 34 ∷ doubled bytes else b ∷ doubled bytes
+abbrev pub with_quotes_doubled : List ℕ → List ℕ
+with_quotes_doubled [] = []
+with_quotes_doubled (b ∷ bytes) = if b == 34 then 34 ∷ 34 ∷ with_quotes_doubled bytes else b ∷ with_quotes_doubled bytes
 
 abbrev pub begins_quote : List ℕ → Bool
 begins_quote [] = false
@@ -17,15 +17,15 @@ with_front front taken (Some read) = Some (front ++ read.0, taken + read.1)
 
 -- The text behind an opening quote, up to the first quote that isn't doubled, and how many bytes it takes with
 -- that quote. There is none where no such quote comes.
-abbrev pub quoted : List ℕ → Option (List ℕ × ℕ)
-quoted [] = None
-quoted (b ∷ []) = if b == 34 then Some ([], 1) else None
-quoted (b ∷ c ∷ bytes) =
-    if b == 34 then (if c == 34 then with_front (34 ∷ []) 2 (quoted bytes) else Some ([], 1))
-    else with_front (b ∷ []) 1 (quoted (c ∷ bytes))
+abbrev pub quoted_text : List ℕ → Option (List ℕ × ℕ)
+quoted_text [] = None
+quoted_text (b ∷ []) = if b == 34 then Some ([], 1) else None
+quoted_text (b ∷ c ∷ bytes) =
+    if b == 34 then (if c == 34 then with_front (34 ∷ []) 2 (quoted_text bytes) else Some ([], 1))
+    else with_front (b ∷ []) 1 (quoted_text (c ∷ bytes))
 
 -- the bytes are the text with its quotes doubled, a quote, and others that don't begin with a quote
 pub record IsQuoted (text : List ℕ) (taken : ℕ) (bytes : List ℕ) : Type 0 where
   pub inside : taken ≤ length bytes
-  pub written : take taken bytes ≡ doubled text ++ 34 ∷ []
+  pub written : take taken bytes ≡ with_quotes_doubled text ++ 34 ∷ []
   pub ends : begins_quote (drop taken bytes) ≡ false

@@ -29,6 +29,10 @@ integer_run (b ∷ bytes) = if b == 45 then digit_run bytes + 1 else digit_run (
 abbrev pub begins_integer : ℕ → Bool
 begins_integer b = is_ascii_digit b || (b == 45)
 
--- the run as a name of at most 64 bytes
+-- the most bytes of a name
+abbrev pub longest_name : ℕ
+longest_name = 64
+
+-- the run as a name that isn't too long
 abbrev pub name_in : List ℕ → Option (List ℕ)
-name_in run = if nat_le (length run) 64 && is_name run then Some run else None
+name_in run = if nat_le (length run) longest_name && is_name run then Some run else None

@@ -1,18 +1,21 @@
 //! The faults that are told, and the pieces of texts, by hand.
 
 use crate::{
-    Broken, begins_blank, begins_integer, digit_run, integer_run, is_blank, least_place,
-    lesser_place, name_in, name_run, quoted, told_first,
+    Broken, begins_blank, begins_integer, broken_if, digit_run, index_past, integer_run, is_blank,
+    least, lesser, name_in, name_run, quoted_text, told_first,
 };
 use med_prelude::Text;
 use std::test::Fail;
 
 #[test]
-fn the_least_place_counts(rt: HostRuntime) {
-    assert_eq!(rt; least_place([7u64, 3, 5].as_slice()), Some(3));
-    assert_eq!(rt; least_place::<u64>([].as_slice()), None);
-    assert_eq!(rt; lesser_place(Some(4u64), Some(9)), Some(4));
-    assert_eq!(rt; lesser_place(None, Some(9u64)), Some(9));
+fn the_least_counts(rt: HostRuntime) {
+    assert_eq!(rt; least([7u64, 3, 5].as_slice()), Some(3));
+    assert_eq!(rt; least::<u64>([].as_slice()), None);
+    assert_eq!(rt; lesser(Some(4u64), Some(9)), Some(4));
+    assert_eq!(rt; lesser(None, Some(9u64)), Some(9));
+    assert_eq!(rt; index_past(16, 17), Some(16));
+    assert_eq!(rt; index_past(16, 16), None);
+    assert_eq!(rt; broken_if(true, 5u64), Some(5));
 }
 
 #[test]
@@ -20,12 +23,9 @@ fn the_first_broken_check_counts(rt: HostRuntime) {
     let later = told_first(3, Some(2u64), None);
     assert_eq!(rt;
         told_first(2, Some(8), later),
-        Some(Broken { why: 2, place: 8 })
+        Some(Broken { why: 2, at: 8 })
     );
-    assert_eq!(rt;
-        told_first(2, None, later),
-        Some(Broken { why: 3, place: 2 })
-    );
+    assert_eq!(rt; told_first(2, None, later), Some(Broken { why: 3, at: 2 }));
     assert_eq!(rt; told_first::<u64>(2, None, None), None);
 }
 
@@ -61,13 +61,13 @@ fn names_have_64_bytes_at_most(rt: HostRuntime) -> Result<(), Fail> {
 #[test]
 fn a_doubled_quote_stands_for_one(rt: HostRuntime) -> Result<(), Fail> {
     let alloc = rt.alloc();
-    let (text, taken) = quoted(alloc, b"a\"\"b\" \"".as_slice())?.ok_or("no text")?;
+    let (text, taken) = quoted_text(alloc, b"a\"\"b\" \"".as_slice())?.ok_or("no text")?;
     assert_eq!(rt; text.as_slice(), b"a\"b".as_slice());
     assert_eq!(rt; taken, 5);
-    let (text, taken) = quoted(alloc, b"\"".as_slice())?.ok_or("no text")?;
+    let (text, taken) = quoted_text(alloc, b"\"".as_slice())?.ok_or("no text")?;
     assert!(rt; text.is_empty());
     assert_eq!(rt; taken, 1);
-    assert!(rt; quoted(alloc, b"ab\"\"".as_slice())?.is_none());
-    assert!(rt; quoted(alloc, b"".as_slice())?.is_none());
+    assert!(rt; quoted_text(alloc, b"ab\"\"".as_slice())?.is_none());
+    assert!(rt; quoted_text(alloc, b"".as_slice())?.is_none());
     Ok(())
 }
