@@ -9,7 +9,7 @@ use Rattle.std.proofs.lemmas.List.{take_at, drop_at}
 use Rattle.std.proofs.lemmas.Nat.{from_be_bytes-to_be_bytes_4, from_be_bytes-to_be_bytes_8}
 use Rattle.tuple_core.specs.Decoding.{front_and_rest, integer_and_rest, text_bytes_and_rest, text_and_rest, truth_and_rest, value_and_rest, values_and_rest, row_and_rest, ◌>>=◌}
 use Rattle.tuple_core.specs.Encoding.{row_encoding, value_encoding}
-use Rattle.tuple_core.specs.Values.{FitsRow, FitsValue}
+use Rattle.tuple_core.specs.Values.{FitsRow, FitsValue, longest_text, most_values}
 use Rattle.tuple_core.specs.declared.value.Value.{Value}
 use Rattle.tuple_core.specs.declared.value.Value.TheVariants as value
 
@@ -32,13 +32,13 @@ integer_back z x fits =
     ∙ ap (λ n. Some (cast_signed w64 n, x)) (from_be_bytes-to_be_bytes_8 (cast_unsigned w64 z) (unsigned_below z fits))
     ∙ ap (λ y. Some (y, x)) (to_z-of_z w64 z fits)
 
-text_bytes_back : (bytes x : List ℕ) → length bytes ≤ 65536 → text_bytes_and_rest (to_be_bytes w32 (length bytes) ++ (bytes ++ x)) ≡ Some (bytes, x)
+text_bytes_back : (bytes x : List ℕ) → length bytes ≤ longest_text → text_bytes_and_rest (to_be_bytes w32 (length bytes) ++ (bytes ++ x)) ≡ Some (bytes, x)
 unfolding text_bytes_and_rest
 text_bytes_back bytes x short =
     let small : length bytes < 2 ^ 32 = omega arith in
-    let within : nat_le (length bytes) 65536 ≡ true = holds_le _ _ short in
-    ap (λ o. o >>= λ y. if nat_le (from_be_bytes w32 y.0) 65536 then front_and_rest (from_be_bytes w32 y.0) y.1 else None) (front_back 4 (to_be_bytes w32 (length bytes)) (bytes ++ x) refl)
-    ∙ ap (λ n. if nat_le n 65536 then front_and_rest n (bytes ++ x) else None) (from_be_bytes-to_be_bytes_4 (length bytes) small)
+    let within : nat_le (length bytes) longest_text ≡ true = holds_le _ _ short in
+    ap (λ o. o >>= λ y. if nat_le (from_be_bytes w32 y.0) longest_text then front_and_rest (from_be_bytes w32 y.0) y.1 else None) (front_back 4 (to_be_bytes w32 (length bytes)) (bytes ++ x) refl)
+    ∙ ap (λ n. if nat_le n longest_text then front_and_rest n (bytes ++ x) else None) (from_be_bytes-to_be_bytes_4 (length bytes) small)
     ∙ ap (λ b. if b then front_and_rest (length bytes) (bytes ++ x) else None) within
     ∙ front_back (length bytes) bytes x refl
 
@@ -66,7 +66,7 @@ values_back (v ∷ row) x fits =
 pub row_back : (row : List Value) (x : List ℕ) → FitsRow row → row_and_rest (row_encoding row ++ x) ≡ Some (row, x)
 unfolding row_and_rest
 row_back row x fits =
-    ap (λ b. if b then values_and_rest (length row) (flat_map value_encoding row ++ x) else None) (holds_le (length row) 64 fits.short)
+    ap (λ b. if b then values_and_rest (length row) (flat_map value_encoding row ++ x) else None) (holds_le (length row) most_values fits.short)
     ∙ values_back row x fits.each
 
 abbrev the_value : {X : Type 0} → X → Option X → X

@@ -7,20 +7,17 @@ use Rattle.std.specs.Str.{is_utf8}
 use Rattle.std.proofs.lemmas.Bool.{cases_lt}
 use Rattle.std.proofs.lemmas.Bool.Decides.{nat_tests, Decides-eqb}
 use Rattle.std.proofs.lemmas.Int.{of_z-to_z}
-use Rattle.std.proofs.lemmas.List.{get_or-drop, get_or-take, get_or_past, take-append-drop, length-take, length-take-le}
+use Rattle.std.proofs.lemmas.List.{take_at, get_or-drop, get_or-take, get_or_past, take-append-drop, length-take, length-take-le}
 use Rattle.std.proofs.Math.Facts.{sfits_to_z}
 use Rattle.std.proofs.lemmas.Nat.{be_bytes_4, be_bytes_8}
 use Rattle.tuple_core.proofs.Back.{row_back}
 use Rattle.tuple_core.proofs.Weighing.{row_weighs}
-use Rattle.tuple_core.specs.Decoding.{BeginsAt, front_and_rest, integer_and_rest, text_bytes_and_rest, text_and_rest, truth_and_rest, value_and_rest, values_and_rest, row_and_rest, ◌>>=◌}
+use Rattle.med_prelude.specs.Texts.{Bytes}
+use Rattle.tuple_core.specs.Decoding.{AreBytes, BeginsAt, front_and_rest, integer_and_rest, text_bytes_and_rest, text_and_rest, truth_and_rest, value_and_rest, values_and_rest, row_and_rest, row_at, ◌>>=◌}
 use Rattle.tuple_core.specs.Encoding.{row_encoding, row_weight, value_encoding}
-use Rattle.tuple_core.specs.Values.{FitsRow, FitsValue}
+use Rattle.tuple_core.specs.Values.{FitsRow, FitsValue, RowValues, longest_text, most_values}
 use Rattle.tuple_core.specs.declared.value.Value.{Value}
 use Rattle.tuple_core.specs.declared.value.Value.TheVariants as value
-
--- each is a byte
-pub record AreBytes (bytes : List ℕ) : Type 0 where
-  pub small : (i : ℕ) → get_or bytes i 0 < 256
 
 dropped : (n : ℕ) (bytes : List ℕ) → AreBytes bytes → AreBytes (drop n bytes)
 dropped n bytes h = record { small = λ i. rw (get_or-drop n bytes i 0) (h.small (n + i)) }
@@ -100,13 +97,13 @@ unfolding integer_and_rest
 integer_sound bytes h = if_then (front_and_rest 8 bytes) _ _ (implied (front_and_rest 8 bytes) (IsFront 8 bytes) _ (front_sound 8 bytes h) (integer_read bytes))
 
 abbrev IsShort : List ℕ → Type 0
-IsShort text = length text ≤ 65536
+IsShort text = length text ≤ longest_text
 
-abbrev sized : List ℕ → List ℕ
-sized text = to_be_bytes w32 (length text) ++ text
+abbrev behind_length : List ℕ → List ℕ
+behind_length text = to_be_bytes w32 (length text) ++ text
 
-text_read : (bytes : List ℕ) (x y : List ℕ × List ℕ) → IsFront 4 bytes x → from_be_bytes w32 x.0 ≤ 65536
-    → IsFront (from_be_bytes w32 x.0) x.1 y → IsRead IsShort sized bytes y
+text_read : (bytes : List ℕ) (x y : List ℕ × List ℕ) → IsFront 4 bytes x → from_be_bytes w32 x.0 ≤ longest_text
+    → IsFront (from_be_bytes w32 x.0) x.1 y → IsRead IsShort behind_length bytes y
 text_read bytes x y size short front = record {
   whole = size.whole ∙ ap (λ bs. bs ++ x.1) (sym written) ∙ ap (λ bs. to_be_bytes w32 (length y.0) ++ bs) front.whole ∙ sym (append_assoc (to_be_bytes w32 (length y.0)) y.0 y.1);
   fits = rw front.long short;
@@ -116,15 +113,15 @@ text_read bytes x y size short front = record {
     written : to_be_bytes w32 (length y.0) ≡ x.0
     written = be_bytes_4 x.0 (length y.0) size.long size.front.small front.long
 
-text_bytes_sound : (bytes : List ℕ) → AreBytes bytes → IfSome (text_bytes_and_rest bytes) (IsRead IsShort sized bytes)
+text_bytes_sound : (bytes : List ℕ) → AreBytes bytes → IfSome (text_bytes_and_rest bytes) (IsRead IsShort behind_length bytes)
 unfolding text_bytes_and_rest
 text_bytes_sound bytes h = if_then (front_and_rest 4 bytes) _ _ (implied (front_and_rest 4 bytes) (IsFront 4 bytes) _ (front_sound 4 bytes h) (λ x size.
-    if_test (nat_le (from_be_bytes w32 x.0) 65536) _ _ (λ e.
+    if_test (nat_le (from_be_bytes w32 x.0) longest_text) _ _ (λ e.
     implied (front_and_rest (from_be_bytes w32 x.0) x.1) (IsFront (from_be_bytes w32 x.0) x.1) _ (front_sound (from_be_bytes w32 x.0) x.1 size.rest) (λ y. text_read bytes x y size (le_holds _ _ e)))))
 
-text_sound : (bytes : List ℕ) → AreBytes bytes → IfSome (text_and_rest bytes) (IsRead (λ text. FitsValue (value.Text text)) sized bytes)
+text_sound : (bytes : List ℕ) → AreBytes bytes → IfSome (text_and_rest bytes) (IsRead (λ text. FitsValue (value.Text text)) behind_length bytes)
 unfolding text_and_rest
-text_sound bytes h = if_then (text_bytes_and_rest bytes) _ _ (implied (text_bytes_and_rest bytes) (IsRead IsShort sized bytes) _ (text_bytes_sound bytes h) (λ x read.
+text_sound bytes h = if_then (text_bytes_and_rest bytes) _ _ (implied (text_bytes_and_rest bytes) (IsRead IsShort behind_length bytes) _ (text_bytes_sound bytes h) (λ x read.
     if_test (is_utf8 x.0) _ _ (λ e. record { whole = read.whole; fits = (e, read.fits); rest = read.rest })))
 
 truth_sound : (bytes : List ℕ) → AreBytes bytes → IfSome (truth_and_rest bytes) (IsRead (λ b. Unit {0}) (λ b. from_bool b ∷ []) bytes)
@@ -166,7 +163,7 @@ values_sound (suc count) bytes h =
 
 -- what is read behind a count fits a row
 pub values_fit : (whole : List ℕ) (count : ℕ) (bytes : List ℕ) (x : List Value × List ℕ) → ((i : ℕ) → Fits w8 (get_or whole i 0))
-    → whole ≡ count ∷ bytes → count ≤ 64 → Some x ≡ values_and_rest count bytes → FitsRow x.0
+    → whole ≡ count ∷ bytes → count ≤ most_values → Some x ≡ values_and_rest count bytes → FitsRow x.0
 values_fit whole count bytes x h e short read =
     let small : AreBytes (count ∷ bytes) = subst AreBytes e (record { small = λ i. (h i).fits }) in
     let are : IfSome (Some x) (AreRead count bytes) = subst (λ o. IfSome o (AreRead count bytes)) (sym read) (values_sound count bytes (tail count bytes small)) in
@@ -175,7 +172,7 @@ values_fit whole count bytes x h e short read =
 row_sound : (bytes : List ℕ) → AreBytes bytes → IfSome (row_and_rest bytes) (IsRead FitsRow row_encoding bytes)
 unfolding row_and_rest
 row_sound [] h = tt
-row_sound (count ∷ bytes) h = if_test (nat_le count 64) _ _ (λ e. implied (values_and_rest count bytes) (AreRead count bytes) _ (values_sound count bytes (tail count bytes h)) (λ x are. record {
+row_sound (count ∷ bytes) h = if_test (nat_le count most_values) _ _ (λ e. implied (values_and_rest count bytes) (AreRead count bytes) _ (values_sound count bytes (tail count bytes h)) (λ x are. record {
   whole = ap (λ n. n ∷ bytes) (sym are.long) ∙ ap (λ bs. length x.0 ∷ bs) are.whole;
   fits = record { short = omega (arith, are.long, le_holds _ _ e); each = are.fits };
   rest = are.rest;
@@ -188,7 +185,7 @@ read_at whole at x h read =
     let there : IfSome (Some x) (IsRead FitsRow row_encoding (drop at whole)) = subst (λ o. IfSome o (IsRead FitsRow row_encoding (drop at whole))) (sym read) sound in
     there
 
--- the row that is read at a place begins there
+-- the row that is read at an offset begins there
 pub begins : (whole : List ℕ) (at : ℕ) (x : List Value × List ℕ) → ((i : ℕ) → Fits w8 (get_or whole i 0)) → Some x ≡ row_and_rest (drop at whole) → BeginsAt whole at x.0
 begins whole at x h read = let there = read_at whole at x h read in (there.fits, (x.1, there.whole))
 
@@ -206,3 +203,21 @@ none_begins whole at none row there =
     let some : None ≡ Some (row, there.1.0) = none ∙ ap row_and_rest there.1.1 ∙ row_back row there.1.0 there.0 in
     let told : Option (List Value × List ℕ) → Type 0 = λ o. MatchOption o (Unit {0}) (λ x. ⊥) in
     subst told some tt
+
+-- where a row is read, the bytes begin with its encoding, of so many bytes as are told
+pub record IsReadFrom (bytes : Bytes) (read : RowValues × ℕ) : Type 0 where
+  pub fits : FitsRow read.0
+  pub encoding : take read.1 bytes ≡ row_encoding read.0
+
+read_from : (bytes : Bytes) (x : RowValues × Bytes) → IsRead FitsRow row_encoding bytes x → IsReadFrom bytes (x.0, row_weight x.0)
+read_from bytes x read = record {
+  fits = read.fits;
+  encoding = ap (take (row_weight x.0)) read.whole ∙ take_at (row_encoding x.0) x.1 (row_weight x.0) (sym (row_weighs x.0));
+}
+
+pub row_at_read : (bytes : Bytes) (row : RowValues) (count : ℕ) → AreBytes bytes → row_at bytes ≡ Some (row, count) → IsReadFrom bytes (row, count)
+row_at_read bytes row count h read =
+    let sound : IfSome (row_at bytes) (IsReadFrom bytes) =
+    mapped (row_and_rest bytes) _ _ (implied (row_and_rest bytes) (IsRead FitsRow row_encoding bytes) _ (row_sound bytes h) (read_from bytes)) in
+    let there : IfSome (Some (row, count)) (IsReadFrom bytes) = subst (λ o. IfSome o (IsReadFrom bytes)) read sound in
+    there

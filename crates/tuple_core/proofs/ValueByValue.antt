@@ -1,6 +1,6 @@
 -- The values of a row are read one after another.
 use Rattle.std.proofs.Common.{◌≡◌, ℕ, suc, ◌+◌, ◌-◌, ◌<◌, List, [], ◌∷◌, ◌++◌, Option, Some, None, refl, sym, ap, ◌∙◌, arith, append_assoc, append-nil}
-use Rattle.tuple_core.specs.Decoding.{Refuses, value_and_rest, values_and_rest, ◌>>=◌}
+use Rattle.tuple_core.specs.Decoding.{RefusesReading, value_and_rest, values_and_rest, ◌>>=◌}
 use Rattle.tuple_core.specs.declared.decoding.Unread.{Unread}
 use Rattle.tuple_core.specs.declared.decoding.Unread.TheVariants as unread
 use Rattle.tuple_core.specs.declared.value.Value.{Value}
@@ -42,6 +42,6 @@ unfolding values_and_rest
 reads_all front bytes = ap (λ row. Some (row, bytes)) (append-nil front)
 
 -- a refusal of a part is one of the whole, where the whole can't be read without the part
-pub passes_on : {X Y : Type 0} (e : Unread) (part : Option X) (whole : Option Y) → Refuses e part → (None ≡ part → None ≡ whole) → Refuses e whole
+pub passes_on : {X Y : Type 0} (e : Unread) (part : Option X) (whole : Option Y) → RefusesReading e part → (None ≡ part → None ≡ whole) → RefusesReading e whole
 passes_on unread.Bad part whole h needs = needs h
 passes_on unread.NoMemory part whole h needs = tt

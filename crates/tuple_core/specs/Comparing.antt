@@ -15,14 +15,14 @@ same_kind_cmp (value.Text x) (value.Text y) = Some (slice_cmp nat_cmp x y)
 same_kind_cmp (value.Bool x) (value.Bool y) = Some (bool_cmp x y)
 same_kind_cmp _ _ = None
 
-abbrev pub holds : Op → Ordering → Bool
-holds op.Eq = is_eq
-holds op.Ne = is_ne
-holds op.Lt = is_lt
-holds op.Le = is_le
-holds op.Gt = is_gt
-holds op.Ge = is_ge
+abbrev pub operator_holds : Op → Ordering → Bool
+operator_holds op.Eq = is_eq
+operator_holds op.Ne = is_ne
+operator_holds op.Lt = is_lt
+operator_holds op.Le = is_le
+operator_holds op.Gt = is_gt
+operator_holds op.Ge = is_ge
 
 -- no operator holds between two kinds
 abbrev pub compares : Op → Value → Value → Bool
-compares op x y = is_some_and (holds op) (same_kind_cmp x y)
+compares op x y = is_some_and (operator_holds op) (same_kind_cmp x y)

@@ -2,6 +2,7 @@ pub mod Comparing
 pub mod Decoding
 pub mod Distinct
 pub mod Encoding
+pub mod Hashing
 pub mod Order
 pub mod Parsing
 pub mod Ranks

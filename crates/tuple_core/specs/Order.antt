@@ -1,12 +1,12 @@
 -- The laws of the order of values and of rows.
-use Rattle.std.specs.Prelude.{◌≡◌, Bool, true, refl, List, Some}
+use Rattle.std.specs.Prelude.{◌≡◌, Bool, true, refl, Some}
 use Rattle.std.specs.Cmp.{IsTotalOrder, IsEquivalence, IsPartialOrder, partial_order_from_agreeing_total, booleans_Decides}
 use Rattle.std.specs.Cmp.Lexicographic.{pointwise, pointwise_decides, bytes_decides, lists_total, lists_equiv, lists_ties}
 use Rattle.std.specs.Ordering.{eq_by_cmp, is_eq}
 use Rattle.std.proofs.Common.{subst, ap, ◌∙◌}
 use Rattle.std.proofs.lemmas.Bool.{false≢true}
 use Rattle.std.proofs.lemmas.Bool.Decides.{Decides-int_eq}
-use Rattle.tuple_core.specs.Values.{value_cmp, row_cmp}
+use Rattle.tuple_core.specs.Values.{RowValues, value_cmp, row_cmp}
 use Rattle.tuple_core.specs.declared.value.Value.{Value}
 use Rattle.tuple_core.specs.declared.value.Value.TheVariants as value
 use Rattle.tuple_core.specs.contracts.value.ValueOrd.TheImpl as ordered
@@ -18,7 +18,7 @@ use Rattle.tuple_core.specs.contracts.value.ValueEq.TheImpl.Laws as equal_laws
 abbrev pub value_eq : Value → Value → Bool
 value_eq = equal.eq-value.it
 
-abbrev pub row_eq : List Value → List Value → Bool
+abbrev pub row_eq : RowValues → RowValues → Bool
 row_eq = pointwise value_eq
 
 -- the derived order is the one of the table
@@ -45,7 +45,7 @@ rows_equiv = lists_equiv equal_laws.laws-law
 pub values_tie : (x y : Value) → value_eq x y ≡ eq_by_cmp value_cmp x y
 values_tie x y = order_laws.matches_eq-law x y ∙ ap is_eq (derived x y)
 
-pub rows_tie : (xs ys : List Value) → row_eq xs ys ≡ eq_by_cmp row_cmp xs ys
+pub rows_tie : (xs ys : RowValues) → row_eq xs ys ≡ eq_by_cmp row_cmp xs ys
 rows_tie = lists_ties value_cmp values_tie
 
 pub rows_po : IsPartialOrder row_eq (λ xs ys. Some (row_cmp xs ys))
@@ -67,5 +67,5 @@ pub value_itself : (x : Value) → value_eq x x ≡ true
 value_itself x = equal_laws.laws-law.refl x
 
 -- the test of rows tells them apart
-pub rows_decided : (xs ys : List Value) → (row_eq xs ys ≡ true → xs ≡ ys) × (xs ≡ ys → row_eq xs ys ≡ true)
+pub rows_decided : (xs ys : RowValues) → (row_eq xs ys ≡ true → xs ≡ ys) × (xs ≡ ys → row_eq xs ys ≡ true)
 rows_decided = pointwise_decides (λ x y. (values_same x y, λ e. subst (λ z. value_eq x z ≡ true) e (value_itself x)))

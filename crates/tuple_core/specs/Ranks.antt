@@ -1,7 +1,8 @@
 -- The number of 128 bits that a row is sorted by first: where two rows' numbers differ, the rows stand as the numbers do.
-use Rattle.std.specs.Prelude.{◌≡◌, ℕ, ◌+◌, ◌-◌, ◌*◌, ◌/◌, ◌^◌, ◌<◌, nat_le, List, [], ◌∷◌, if◌then◌else◌, ℤ, negsuc, ◌-ℤ◌, unsigned_abs}
+use Rattle.std.specs.Prelude.{◌≡◌, ℕ, ◌+◌, ◌-◌, ◌*◌, ◌/◌, ◌^◌, ◌<◌, nat_le, [], ◌∷◌, if◌then◌else◌, ℤ, negsuc, ◌-ℤ◌, unsigned_abs}
 use Rattle.std.specs.Int.{from_bool}
-use Rattle.tuple_core.specs.Values.{FitsRow}
+use Rattle.med_prelude.specs.Texts.{Bytes}
+use Rattle.tuple_core.specs.Values.{FitsRow, RowValues}
 use Rattle.tuple_core.specs.declared.value.Value.{Value}
 use Rattle.tuple_core.specs.declared.value.Value.TheVariants as value
 
@@ -14,7 +15,7 @@ unfoldable pub above_least : ℤ → ℕ
 above_least z = unsigned_abs (z -ℤ negsuc (2 ^ 63 - 1))
 
 -- nine bits for each byte plus one, and then nine zeros
-unfoldable pub text_rank : List ℕ → (ℕ → ℕ) → ℕ → ℕ
+unfoldable pub text_rank : Bytes → (ℕ → ℕ) → ℕ → ℕ
 text_rank [] rest = put_digit 9 0 rest
 text_rank (b ∷ bytes) rest = put_digit 9 (b + 1) (text_rank bytes rest)
 
@@ -25,12 +26,12 @@ value_rank (value.Text bytes) rest = put_digit 2 2 (text_rank bytes rest)
 value_rank (value.Bool b) rest = put_digit 2 3 (put_digit 1 (from_bool b) rest)
 
 -- the values one behind another, and then zeros
-unfoldable pub row_rank : List Value → ℕ → ℕ
+unfoldable pub row_rank : RowValues → ℕ → ℕ
 row_rank [] room = 0
 row_rank (v ∷ row) room = value_rank v (row_rank row) room
 
 -- the number is the rank of the row
-pub record IsRanked (rank : ℕ) (row : List Value) : Type 0 where
+pub record IsRanked (rank : ℕ) (row : RowValues) : Type 0 where
   pub fits : FitsRow row
   pub is : rank ≡ row_rank row 128
 

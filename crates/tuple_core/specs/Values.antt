@@ -1,5 +1,5 @@
 -- Values and rows: their limits, their order and their texts.
-use Rattle.std.specs.Prelude.{ℕ, ◌≤◌, true, false, List, length, codes, FitsSigned}
+use Rattle.std.specs.Prelude.{◌≤◌, ℕ, true, false, List, length, codes, FitsSigned}
 use Rattle.std.specs.Cmp.Lexicographic.{slice_cmp}
 use Rattle.std.specs.Fmt.{signed_decimal}
 use Rattle.std.specs.Int.{w64}
@@ -7,7 +7,7 @@ use Rattle.std.specs.List.{AllByRecursion}
 use Rattle.std.specs.Ordering.{nat_cmp, int_cmp, bool_cmp}
 use Rattle.std.specs.declared.cmp.Ordering.{Ordering}
 use Rattle.std.specs.declared.cmp.Ordering.TheVariants.{Less, Greater}
-use Rattle.med_prelude.specs.Texts.{IsText}
+use Rattle.med_prelude.specs.Texts.{Bytes, IsText}
 use Rattle.tuple_core.specs.declared.value.Value.{Value}
 use Rattle.tuple_core.specs.declared.value.Value.TheVariants as value
 
@@ -19,15 +19,23 @@ RowValues = List Value
 abbrev pub RowList : Type 0
 RowList = List RowValues
 
--- an integer of 64 bits, a text of at most 65,536 bytes, or a truth value
+-- the most bytes of a text in a row
+abbrev pub longest_text : ℕ
+longest_text = 65536
+
+-- the most values of a row
+abbrev pub most_values : ℕ
+most_values = 64
+
+-- an integer of 64 bits, a text of limited length, or a truth value
 abbrev pub FitsValue : Value → Type 0
 FitsValue (value.Int z) = FitsSigned w64 z
-FitsValue (value.Text bytes) = IsText bytes × (length bytes ≤ 65536)
+FitsValue (value.Text bytes) = IsText bytes × (length bytes ≤ longest_text)
 FitsValue (value.Bool b) = Unit {0}
 
--- a row has at most 64 values, each within its limits
-pub record FitsRow (row : List Value) : Type 0 where
-  pub short : length row ≤ 64
+-- a row has not too many values, each within its limits
+pub record FitsRow (row : RowValues) : Type 0 where
+  pub short : length row ≤ most_values
   pub each : AllByRecursion FitsValue row
 
 -- integers by value, texts by bytes, false before true; of two kinds integers come first, and truth values last
@@ -43,11 +51,11 @@ value_cmp (value.Bool x) (value.Text y) = Greater
 value_cmp (value.Bool x) (value.Bool y) = bool_cmp x y
 
 -- rows compare value by value, and a proper prefix is less
-abbrev pub row_cmp : List Value → List Value → Ordering
+abbrev pub row_cmp : RowValues → RowValues → Ordering
 row_cmp = slice_cmp value_cmp
 
 -- the shortest decimal text, the bytes of a text, or the word
-abbrev pub value_text : Value → List ℕ
+abbrev pub value_text : Value → Bytes
 value_text (value.Int z) = signed_decimal z
 value_text (value.Text bytes) = bytes
 value_text (value.Bool true) = codes "true"

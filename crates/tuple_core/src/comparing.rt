@@ -1,7 +1,7 @@
 //! How values and rows compare.
 
 ghost use Rattle.std.specs.Prelude.{◌≡◌};
-ghost use Rattle.tuple_core.specs.Comparing.{compares, holds};
+ghost use Rattle.tuple_core.specs.Comparing.{compares, operator_holds};
 ghost use Rattle.tuple_core.specs.Values.{row_cmp};
 
 use crate::row::Row;
@@ -19,8 +19,8 @@ pub enum Op {
     Ge,
 }
 
-fn holds(op: Op, order: Ordering) -> bool
-    ensures { result ≡ holds op order }
+fn operator_holds(op: Op, order: Ordering) -> bool
+    ensures { result ≡ operator_holds op order }
 {
     match op {
         Op::Eq => order.is_eq(),
@@ -37,9 +37,9 @@ pub fn compare(op: Op, x: &Value, y: &Value) -> bool
     ensures { result ≡ compares op x.now y.now }
 {
     match (x, y) {
-        (Value::Int(x), Value::Int(y)) => holds(op, x.cmp(y)),
-        (Value::Text(x), Value::Text(y)) => holds(op, x.cmp(y)),
-        (Value::Bool(x), Value::Bool(y)) => holds(op, x.cmp(y)),
+        (Value::Int(x), Value::Int(y)) => operator_holds(op, x.cmp(y)),
+        (Value::Text(x), Value::Text(y)) => operator_holds(op, x.cmp(y)),
+        (Value::Bool(x), Value::Bool(y)) => operator_holds(op, x.cmp(y)),
         _ => false,
     }
 }

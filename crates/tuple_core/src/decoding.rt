@@ -2,7 +2,7 @@
 
 ghost use Rattle.std.specs.Prelude.{◌≡◌, ◌+◌, ◌≤◌, ℕ, drop, length, IfOk, IfErr, IfSome, option_map};
 ghost use Rattle.std.specs.List.{AllByRecursion};
-ghost use Rattle.tuple_core.specs.Decoding.{BeginsAt, Decodes, Reads, TellsBad, text_bytes_and_rest, front_and_rest, integer_and_rest, row_and_rest, row_at, text_and_rest, truth_and_rest, value_and_rest, values_and_rest};
+ghost use Rattle.tuple_core.specs.Decoding.{BeginsAt, GivesRow, GivesReading, TellsBad, text_bytes_and_rest, front_and_rest, integer_and_rest, row_and_rest, row_at, text_and_rest, truth_and_rest, value_and_rest, values_and_rest};
 ghost use Rattle.tuple_core.specs.Encoding.{row_weight};
 ghost use Rattle.tuple_core.specs.Values.{FitsValue, FitsRow};
 
@@ -62,7 +62,7 @@ fn text_bytes(bytes: &[u8]) -> Option<(&[u8], &[u8])>
 
 #[tactic(auto, unfolding(crate::specs::Decoding::text_and_rest))]
 fn read_text(alloc: Global, bytes: &[u8]) -> Result<(Text, &[u8]), Unread>
-    ensures { Reads (λ x. (x.0, x.1.now)) result (text_and_rest bytes.now) }
+    ensures { GivesReading (λ x. (x.0, x.1.now)) result (text_and_rest bytes.now) }
 {
     let (text, rest) = text_bytes(bytes).ok_or(Unread::Bad)?;
     match Text::from_utf8(alloc, text) {
@@ -74,7 +74,7 @@ fn read_text(alloc: Global, bytes: &[u8]) -> Result<(Text, &[u8]), Unread>
 
 #[tactic(auto, unfolding(crate::specs::Decoding::value_and_rest))]
 fn read_value(alloc: Global, bytes: &[u8]) -> Result<(Value, &[u8]), Unread>
-    ensures { Reads (λ x. (x.0, x.1.now)) result (value_and_rest bytes.now) }
+    ensures { GivesReading (λ x. (x.0, x.1.now)) result (value_and_rest bytes.now) }
 {
     let (kind, bytes) = bytes.split_first().ok_or(Unread::Bad)?;
     match *kind {
@@ -95,7 +95,7 @@ fn read_value(alloc: Global, bytes: &[u8]) -> Result<(Value, &[u8]), Unread>
 }
 
 fn read_values(alloc: Global, count: usize, bytes: &[u8]) -> Result<(Vec<Value>, &[u8]), Unread>
-    ensures { Reads (λ x. (x.0.items, x.1.now)) result (values_and_rest count bytes.now) }
+    ensures { GivesReading (λ x. (x.0.items, x.1.now)) result (values_and_rest count bytes.now) }
 {
     let mut rest = bytes;
     let mut values = Vec::with_capacity(alloc, count).map_err(|_| Unread::NoMemory)?;
@@ -109,7 +109,7 @@ fn read_values(alloc: Global, count: usize, bytes: &[u8]) -> Result<(Vec<Value>,
 
 #[tactic(auto, unfolding(crate::specs::Decoding::row_and_rest))]
 fn read_row(alloc: Global, bytes: &[u8]) -> Result<(Row, &[u8]), Unread>
-    ensures { Reads (λ x. (x.0, x.1.now)) result (row_and_rest bytes.now) }
+    ensures { GivesReading (λ x. (x.0, x.1.now)) result (row_and_rest bytes.now) }
 {
     let (count, bytes) = bytes.split_first().ok_or(Unread::Bad)?;
     let count = usize::from(*count);
@@ -120,13 +120,13 @@ fn read_row(alloc: Global, bytes: &[u8]) -> Result<(Row, &[u8]), Unread>
     Ok((Row::new(values), rest))
 }
 
-/// Reads the row whose encoding begins at a place, which may be any number, and tells the place directly
+/// Reads the row whose encoding begins at an offset, which may be any number, and tells the offset directly
 /// after its encoding.
 pub fn decode(alloc: Global, bytes: &[u8], at: usize) -> Result<(Row, usize), DecodeFault>
     ensures row { IfOk result (λ read. BeginsAt bytes.now at read.0) }
     ensures after { IfOk result (λ read. read.1 ≡ at + row_weight read.0) }
     ensures bad { IfErr result (TellsBad bytes.now at) }
-    ensures reads { Decodes result (row_at (drop at bytes.now)) }
+    ensures reads { GivesRow result (row_at (drop at bytes.now)) }
 {
     let Some((_, from)) = bytes.split_at_checked(at) else {
         return Err(DecodeFault::Bad { at });

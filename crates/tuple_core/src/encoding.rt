@@ -1,8 +1,8 @@
 //! The bytes that stand for a row, in spill files, in memory and in keys.
 
 ghost use Rattle.std.specs.Prelude.{◌≡◌, ◌+◌, ◌≤◌, ◌++◌, length, vec_len, vec_capacity, IsOk, OnOk, OnErr};
-ghost use Rattle.tuple_core.specs.Encoding.{row_encoding, row_weight, value_encoding, value_weight};
-ghost use Rattle.tuple_core.specs.Values.{FitsValue};
+ghost use Rattle.tuple_core.specs.Encoding.{greatest_value_weight, greatest_weight, row_encoding, row_weight, value_encoding, value_weight};
+ghost use Rattle.tuple_core.specs.Values.{FitsValue, longest_text};
 
 use crate::row::Row;
 use crate::value::Value;
@@ -17,7 +17,7 @@ pub(crate) const TRUTH: u8 = 3;
 fn value_weight(value: &Value) -> u64
     requires { FitsValue value.now }
     ensures weight { result ≡ value_weight value.now }
-    ensures bound { result ≤ 65541 }
+    ensures bound { result ≤ greatest_value_weight }
 {
     match value {
         Value::Int(_) => 9,
@@ -29,7 +29,7 @@ fn value_weight(value: &Value) -> u64
 /// The length of the row's encoding, in bytes.
 pub fn weight(row: &Row) -> u64
     ensures weight { result ≡ row_weight row.now }
-    ensures bound { result ≤ 4194625 }
+    ensures bound { result ≤ greatest_weight }
 {
     let mut weight = 1u64;
     for value in row.values() {
@@ -62,7 +62,7 @@ fn put_integer(number: i64, into: &mut Vec<u8>)
 }
 
 fn put_text(bytes: &[u8], into: &mut Vec<u8>)
-    requires short { length bytes.now ≤ 65536 }
+    requires short { length bytes.now ≤ longest_text }
     requires room { vec_len into.old + (5 + length bytes.now) ≤ vec_capacity into.old }
     ensures items { into.new.items ≡ into.old.items ++ value_encoding (Value.Text bytes.now) }
     ensures len { vec_len into.new ≡ vec_len into.old + (5 + length bytes.now) }

@@ -1,4 +1,18 @@
-//! Values and rows: what they are, how they compare, and how they are written, read and put into bytes.
+//! Values and rows: what they are, how they compare, and how they are read, written and put into bytes.
+//!
+//! - [`Value`] is an integer, a text or a truth value, [`Row`] a short list of values, [`Column`] a name and a
+//!   [`Kind`]. Each of them has `clone`, whose copy is equal.
+//! - [`parse_value`] reads a value from its text, and [`field_value`] from a field of a column; [`numeral`] reads a
+//!   number without a sign; [`text_of`] writes a value's text.
+//! - [`compare`] tells whether an [`Op`] holds between two values. [`row_order`] is the order of rows, and
+//!   [`sorted_distinct`] puts rows into it, each once.
+//! - [`encode`] puts a row into bytes, whose number is its [`weight`], and [`decode`] reads it back.
+//! - [`KeyRoom`] is lent room in which the key of a row is written; [`hash`] and [`bucket_of`] tell where a key is kept.
+//! - The functions of `laws.rt`, as [`encodings_tell_rows_apart`], do nothing: their contracts are laws for callers' proofs.
+//!
+//! The definitions are in `specs/`: `Values` (limits, order and texts, with the short names `RowValues` and `RowList`),
+//! `Order` (laws of the order), `Parsing`, `Comparing`, `Distinct`, `Encoding`, `Decoding`, `Hashing`, `RowText` (the text
+//! of rows) and `Ranks` (what rows are sorted by first).
 #![tactic(auto)]
 
 mod columns;
@@ -23,11 +37,14 @@ pub use comparing::{Op, compare, row_order};
 pub use decoding::{DecodeFault, decode};
 pub use distinct::sorted_distinct;
 pub use encoding::{encode, weight};
-pub use hashing::hash;
+pub use hashing::{bucket_of, hash};
 pub use keys::KeyRoom;
-pub use laws::{encodings_are_read_back, encodings_tell_rows_apart, weight_is_a_length};
+pub use laws::{
+    constants_are_the_limits, encodings_are_read_back, encodings_tell_rows_apart,
+    rows_are_read_from_encodings, weight_is_a_length, weight_is_bounded,
+};
 pub use med_prelude::{Listed, Text};
-pub use parsing::parse_value;
+pub use parsing::{field_value, numeral, parse_value};
 pub use row::{Row, Rows};
 pub use value::Value;
 pub use written::text_of;

@@ -1,11 +1,11 @@
 //! How a value is read from its text.
 
-ghost use Rattle.std.specs.Prelude.{◌≡◌, ◌+◌, ◌-◌, ◌*◌, ◌^◌, ◌≤◌, ◌&&◌, nat_le, pos, neg_ℤ, IfOk, IfSome, Some, None, if◌then◌else◌};
+ghost use Rattle.std.specs.Prelude.{◌≡◌, ◌≢◌, ◌+◌, ◌-◌, ◌*◌, ◌^◌, ◌≤◌, ◌&&◌, nat_le, pos, neg_ℤ, IsOk, IfOk, IfSome, Some, None, if◌then◌else◌};
 ghost use Rattle.std.specs.Char.{is_ascii_digit};
-ghost use Rattle.tuple_core.specs.Parsing.{numeral, parsed, parsed_integer, parsed_text, parsed_truth};
+ghost use Rattle.tuple_core.specs.Parsing.{field_value, numeral, parsed_value, parsed_integer, parsed_text, parsed_truth};
 ghost use Rattle.tuple_core.specs.Values.{FitsValue};
 
-use crate::columns::Kind;
+use crate::columns::{Column, Kind};
 use crate::value::Value;
 use med_prelude::Text;
 use std::alloc::{AllocError, Global};
@@ -23,7 +23,8 @@ fn extended(number: u64, digit: u8, most: u64) -> Option<u64>
     (next <= most).then_some(next)
 }
 
-fn numeral(digits: &[u8], most: u64) -> Option<u64>
+/// The number that one or more decimal digits write, where it is at most `most`. They may begin with zeros.
+pub fn numeral(digits: &[u8], most: u64) -> Option<u64>
     ensures { result ≡ numeral most digits.now }
 {
     if digits.is_empty() {
@@ -86,15 +87,24 @@ fn parse_text(alloc: Global, bytes: &[u8]) -> Result<Option<Text>, AllocError>
     Text::from_utf8(alloc, bytes)
 }
 
-/// The value of the kind whose text the bytes are; there may be none. Takes memory for a text's own bytes
-/// alone. Callers read the fields of sources with it.
+/// The value of the kind whose text the bytes are; there may be none. Only for a text is memory taken.
 pub fn parse_value(alloc: Global, kind: Kind, bytes: &[u8]) -> Result<Option<Value>, AllocError>
-    ensures value { IfOk result (λ value. value ≡ parsed kind bytes.now) }
+    ensures value { IfOk result (λ value. value ≡ parsed_value kind bytes.now) }
     ensures fits { IfOk result (λ value. IfSome value FitsValue) }
+    ensures no_memory { kind ≢ Kind.Text → IsOk result }
 {
     match kind {
         Kind::Int => Ok(parse_integer(bytes).map(Value::Int)),
         Kind::Text => Ok(parse_text(alloc, bytes)?.map(Value::Text)),
         Kind::Bool => Ok(parse_truth(bytes).map(Value::Bool)),
     }
+}
+
+/// The value that a field of a source has in the column; there may be none. Only for a text is memory taken.
+pub fn field_value(alloc: Global, column: &Column, field: &[u8]) -> Result<Option<Value>, AllocError>
+    ensures value { IfOk result (λ value. value ≡ field_value column.now field.now) }
+    ensures fits { IfOk result (λ value. IfSome value FitsValue) }
+    ensures no_memory { column.now.kind ≢ Kind.Text → IsOk result }
+{
+    parse_value(alloc, column.kind, field)
 }

@@ -18,12 +18,10 @@ pub(crate) struct Ranked {
 }
 
 impl Model for Ranked {
-    ghost use Rattle.std.specs.Prelude.{List};
-    ghost use Rattle.tuple_core.specs.declared.value.Value.{Value as AValue};
-
-    ghost Value = { List AValue };
-
     ghost use Rattle.tuple_core.specs.Ranks.{IsRanked};
+    ghost use Rattle.tuple_core.specs.Values.{RowValues};
+
+    ghost Value = { RowValues };
 
     ghost view = { λ r. r.row };
 

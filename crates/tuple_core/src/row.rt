@@ -7,6 +7,7 @@ ghost use Rattle.tuple_core.specs.Values.{FitsRow, row_cmp};
 
 use crate::value::Value;
 use med_prelude::Listed;
+use std::alloc::AllocError;
 use std::cmp::Ordering;
 use std::marker::Model;
 
@@ -18,12 +19,9 @@ pub struct Row {
 }
 
 impl Model for Row {
-    ghost use Rattle.std.specs.Prelude.{List};
-    ghost use Rattle.tuple_core.specs.declared.value.Value.{Value as AValue};
+    ghost use Rattle.tuple_core.specs.Values.{FitsRow, RowValues};
 
-    ghost Value = { List AValue };
-
-    ghost use Rattle.tuple_core.specs.Values.{FitsRow};
+    ghost Value = { RowValues };
 
     ghost view = { λ r. r.values.items };
 
@@ -37,6 +35,7 @@ impl Row {
     /// The most bytes of a row's encoding.
     pub const GREATEST_WEIGHT: u64 = 4_194_625;
 
+    /// The row of these values.
     pub fn new(values: Vec<Value>) -> Self
         requires { FitsRow values.items }
         ensures { result ≡ values.items }
@@ -44,6 +43,7 @@ impl Row {
         Row { values }
     }
 
+    /// The values from left to right.
     pub fn values(&self) -> &[Value]
         ensures value { result.now ≡ self.now }
         ensures fits { FitsRow self.now }
@@ -52,7 +52,18 @@ impl Row {
     }
 }
 
+/// Rows, which may have different numbers of values.
 pub type Rows = Listed<Row>;
+
+impl Clone for Row {
+    ghost is_clone = { λ row copy. copy ≡ row };
+
+    fn clone(&self) -> Result<Row, AllocError> {
+        Ok(Row {
+            values: self.values.clone()?,
+        })
+    }
+}
 
 impl PartialEq for Row {
     ghost eq = { row_eq };

@@ -1,6 +1,9 @@
 //! A value of a column.
 
+ghost use Rattle.std.specs.Prelude.{◌≡◌};
+
 use med_prelude::Text;
+use std::alloc::AllocError;
 
 /// A value. The variants stand in the order of their kinds, by which values of two kinds compare.
 #[derive(Debug, PartialEq, Eq, PartialOrd, Ord, Drop)]
@@ -13,4 +16,16 @@ pub enum Value {
 impl Value {
     /// The most bytes of a text in a row.
     pub const LONGEST_TEXT: usize = 65_536;
+}
+
+impl Clone for Value {
+    ghost is_clone = { λ value copy. copy ≡ value };
+
+    fn clone(&self) -> Result<Value, AllocError> {
+        match self {
+            Value::Int(number) => Ok(Value::Int(*number)),
+            Value::Text(text) => Ok(Value::Text(text.clone()?)),
+            Value::Bool(truth) => Ok(Value::Bool(*truth)),
+        }
+    }
 }

@@ -1,5 +1,5 @@
 use Rattle.std.proofs.Common.{◌≡◌, take}
-use Rattle.tuple_core.specs.Encoding.{byte_hash}
+use Rattle.tuple_core.specs.Hashing.{byte_hash}
 use Rattle.tuple_core.proofs.hashing.hash.Given as goal
 
 abbrev pub invariant-loop-byte : goal.invariant-loop-byte
