@@ -3,7 +3,7 @@ use Rattle.std.proofs.Common.{◌≡◌, ℕ, Bool, true, false, cond, not, ◌&
 use Rattle.std.specs.List.{list_all}
 use Rattle.std.proofs.Common.{ap₂}
 use Rattle.std.proofs.lemmas.Bool.{eqb-true, eq-eqb, true≢false, false≢true, or_parts, and_parts, and_from}
-use Rattle.answer_theory.specs.Bindings.{Binding, IsSound, agree, meet, consistent, bound, value_of, firsts, glue}
+use Rattle.answer_theory.specs.Bindings.{Binding, IsSound, agree, meet, consistent, has_entry, value_of, first_entries, glue}
 use Rattle.answer_theory.proofs.Bools.{and_true, and_false, same_tests, nat_eq_sym, and_under}
 use Rattle.answer_theory.proofs.Lists.{filter_comm, all_filter, all_kept, filter_append, filter_alike, filter_filter, all_append, all_alike, all_exchange, all_and, any_append}
 
@@ -40,19 +40,19 @@ consistent_append joins (b ∷ bs) cs =
 
 -- ---- values
 
-pub bound_append : {X : Type 0} (bs cs : Binding X) (v : ℕ) → bound (bs ++ cs) v ≡ (bound bs v || bound cs v)
+pub bound_append : {X : Type 0} (bs cs : Binding X) (v : ℕ) → has_entry (bs ++ cs) v ≡ (has_entry bs v || has_entry cs v)
 bound_append bs cs v = any_append (λ b. b.0 == v) bs cs
 
-pub value_of_append : {X : Type 0} → (bs cs : Binding X) (v : ℕ) → value_of (bs ++ cs) v ≡ cond (bound bs v) (value_of bs v) (value_of cs v)
+pub value_of_append : {X : Type 0} → (bs cs : Binding X) (v : ℕ) → value_of (bs ++ cs) v ≡ cond (has_entry bs v) (value_of bs v) (value_of cs v)
 value_of_append [] cs v = refl
 value_of_append (b ∷ bs) cs v = go (b.0 == v) (value_of_append bs cs v)
   where
-    go : (t : Bool) → value_of (bs ++ cs) v ≡ cond (bound bs v) (value_of bs v) (value_of cs v)
-        → cond t (Some b.1) (value_of (bs ++ cs) v) ≡ cond (t || bound bs v) (cond t (Some b.1) (value_of bs v)) (value_of cs v)
+    go : (t : Bool) → value_of (bs ++ cs) v ≡ cond (has_entry bs v) (value_of bs v) (value_of cs v)
+        → cond t (Some b.1) (value_of (bs ++ cs) v) ≡ cond (t || has_entry bs v) (cond t (Some b.1) (value_of bs v)) (value_of cs v)
     go true ih = refl
     go false ih = ih
 
--- places of other variables don't count
+-- entries of other variables don't count
 pub value_of_filter : {X : Type 0} (test : ℕ → Bool) → (bs : Binding X) (v : ℕ) → test v ≡ true → value_of (filter (λ c. test c.0) bs) v ≡ value_of bs v
 value_of_filter test [] v e = refl
 value_of_filter test (b ∷ bs) v e = go (test b.0) refl (b.0 == v) refl (value_of_filter test bs v e)
@@ -63,92 +63,92 @@ value_of_filter test (b ∷ bs) v e = go (test b.0) refl (b.0 == v) refl (value_
     go false h true k ih = absurd (true≢false (sym e ∙ (ap test (sym (eqb-true b.0 v k)) ∙ h)))
     go false h false k ih = ih
 
-pub bound_filter : {X : Type 0} (test : ℕ → Bool) → (bs : Binding X) (v : ℕ) → test v ≡ true → bound (filter (λ c. test c.0) bs) v ≡ bound bs v
+pub bound_filter : {X : Type 0} (test : ℕ → Bool) → (bs : Binding X) (v : ℕ) → test v ≡ true → has_entry (filter (λ c. test c.0) bs) v ≡ has_entry bs v
 bound_filter test [] v e = refl
 bound_filter test (b ∷ bs) v e = go (test b.0) refl (b.0 == v) refl (bound_filter test bs v e)
   where
-    go : (t : Bool) → test b.0 ≡ t → (s : Bool) → (b.0 == v) ≡ s → bound (filter (λ c. test c.0) bs) v ≡ bound bs v
-        → bound (cond t (b ∷ filter (λ c. test c.0) bs) (filter (λ c. test c.0) bs)) v ≡ (s || bound bs v)
-    go true h s k ih = ap (λ u. u || bound (filter (λ c. test c.0) bs) v) k ∙ ap (λ w. s || w) ih
+    go : (t : Bool) → test b.0 ≡ t → (s : Bool) → (b.0 == v) ≡ s → has_entry (filter (λ c. test c.0) bs) v ≡ has_entry bs v
+        → has_entry (cond t (b ∷ filter (λ c. test c.0) bs) (filter (λ c. test c.0) bs)) v ≡ (s || has_entry bs v)
+    go true h s k ih = ap (λ u. u || has_entry (filter (λ c. test c.0) bs) v) k ∙ ap (λ w. s || w) ih
     go false h true k ih = absurd (true≢false (sym e ∙ (ap test (sym (eqb-true b.0 v k)) ∙ h)))
     go false h false k ih = ih
 
--- a variable that has no place has no value
-pub value_of_unbound : {X : Type 0} → (bs : Binding X) (v : ℕ) → bound bs v ≡ false → value_of bs v ≡ None
+-- a variable that has no entry has no value
+pub value_of_unbound : {X : Type 0} → (bs : Binding X) (v : ℕ) → has_entry bs v ≡ false → value_of bs v ≡ None
 value_of_unbound [] v e = refl
-value_of_unbound (b ∷ bs) v e = go (b.0 == v) refl (or_parts (b.0 == v) (bound bs v) e).0 (value_of_unbound bs v (or_parts (b.0 == v) (bound bs v) e).1)
+value_of_unbound (b ∷ bs) v e = go (b.0 == v) refl (or_parts (b.0 == v) (has_entry bs v) e).0 (value_of_unbound bs v (or_parts (b.0 == v) (has_entry bs v) e).1)
   where
     go : (t : Bool) → (b.0 == v) ≡ t → (b.0 == v) ≡ false → value_of bs v ≡ None → cond t (Some b.1) (value_of bs v) ≡ None
     go true h k ih = absurd (true≢false (sym h ∙ k))
     go false h k ih = ih
 
--- ---- the first places
+-- ---- the first entries
 
--- the places of the other variables
+-- the entries of the other variables
 abbrev others : {X : Type 0} → ℕ × X → Binding X → Binding X
 others b bs = filter (λ c. not (c.0 == b.0)) bs
 
 other_is : (m v : ℕ) → (m == v) ≡ false → not (v == m) ≡ true
 other_is m v e = ap not (nat_eq_sym v m ∙ e)
 
-pub value_of_firsts : {X : Type 0} → (bs : Binding X) (v : ℕ) → value_of (firsts bs) v ≡ value_of bs v
-value_of_firsts [] v = refl
-value_of_firsts (b ∷ bs) v = go (b.0 == v) refl (value_of_firsts bs v)
+pub value_of_first_entries : {X : Type 0} → (bs : Binding X) (v : ℕ) → value_of (first_entries bs) v ≡ value_of bs v
+value_of_first_entries [] v = refl
+value_of_first_entries (b ∷ bs) v = go (b.0 == v) refl (value_of_first_entries bs v)
   where
-    go : (t : Bool) → (b.0 == v) ≡ t → value_of (firsts bs) v ≡ value_of bs v → cond t (Some b.1) (value_of (others b (firsts bs)) v) ≡ cond t (Some b.1) (value_of bs v)
+    go : (t : Bool) → (b.0 == v) ≡ t → value_of (first_entries bs) v ≡ value_of bs v → cond t (Some b.1) (value_of (others b (first_entries bs)) v) ≡ cond t (Some b.1) (value_of bs v)
     go true e ih = refl
-    go false e ih = value_of_filter (λ w. not (w == b.0)) (firsts bs) v (other_is b.0 v e) ∙ ih
+    go false e ih = value_of_filter (λ w. not (w == b.0)) (first_entries bs) v (other_is b.0 v e) ∙ ih
 
-pub bound_firsts : {X : Type 0} → (bs : Binding X) (v : ℕ) → bound (firsts bs) v ≡ bound bs v
-bound_firsts [] v = refl
-bound_firsts (b ∷ bs) v = go (b.0 == v) refl (bound_firsts bs v)
+pub bound_first_entries : {X : Type 0} → (bs : Binding X) (v : ℕ) → has_entry (first_entries bs) v ≡ has_entry bs v
+bound_first_entries [] v = refl
+bound_first_entries (b ∷ bs) v = go (b.0 == v) refl (bound_first_entries bs v)
   where
-    go : (t : Bool) → (b.0 == v) ≡ t → bound (firsts bs) v ≡ bound bs v → (t || bound (others b (firsts bs)) v) ≡ (t || bound bs v)
+    go : (t : Bool) → (b.0 == v) ≡ t → has_entry (first_entries bs) v ≡ has_entry bs v → (t || has_entry (others b (first_entries bs)) v) ≡ (t || has_entry bs v)
     go true e ih = refl
-    go false e ih = bound_filter (λ w. not (w == b.0)) (firsts bs) v (other_is b.0 v e) ∙ ih
+    go false e ih = bound_filter (λ w. not (w == b.0)) (first_entries bs) v (other_is b.0 v e) ∙ ih
 
 -- the variables that neither b nor the others of bs bind
 unbound_by_both : {X : Type 0} (b : ℕ × X) (bs : Binding X) (c : ℕ × X)
-    → (not (bound bs c.0) && not (c.0 == b.0)) ≡ not (bound (b ∷ others b bs) c.0)
+    → (not (has_entry bs c.0) && not (c.0 == b.0)) ≡ not (has_entry (b ∷ others b bs) c.0)
 unbound_by_both b bs c = go (b.0 == c.0) refl
   where
-    go : (t : Bool) → (b.0 == c.0) ≡ t → (not (bound bs c.0) && not (c.0 == b.0)) ≡ not (t || bound (others b bs) c.0)
-    go true e = ap (λ u. not (bound bs c.0) && not u) (nat_eq_sym c.0 b.0 ∙ e) ∙ and_false (not (bound bs c.0))
-    go false e = ap (λ u. not (bound bs c.0) && not u) (nat_eq_sym c.0 b.0 ∙ e) ∙ (and_true (not (bound bs c.0))
+    go : (t : Bool) → (b.0 == c.0) ≡ t → (not (has_entry bs c.0) && not (c.0 == b.0)) ≡ not (t || has_entry (others b bs) c.0)
+    go true e = ap (λ u. not (has_entry bs c.0) && not u) (nat_eq_sym c.0 b.0 ∙ e) ∙ and_false (not (has_entry bs c.0))
+    go false e = ap (λ u. not (has_entry bs c.0) && not u) (nat_eq_sym c.0 b.0 ∙ e) ∙ (and_true (not (has_entry bs c.0))
         ∙ ap not (sym (bound_filter (λ w. not (w == b.0)) bs c.0 (other_is b.0 c.0 e))))
 
-pub firsts_append : {X : Type 0} → (bs cs : Binding X) → firsts (bs ++ cs) ≡ glue (firsts bs) (firsts cs)
-firsts_append {X} [] cs = sym (keeps_all (firsts cs))
+pub first_entries_append : {X : Type 0} → (bs cs : Binding X) → first_entries (bs ++ cs) ≡ glue (first_entries bs) (first_entries cs)
+first_entries_append {X} [] cs = sym (keeps_all (first_entries cs))
   where
     keeps_all : (ds : Binding X) → filter (λ c. true) ds ≡ ds
     keeps_all [] = refl
     keeps_all (d ∷ ds) = ap (λ l. d ∷ l) (keeps_all ds)
-firsts_append (b ∷ bs) cs = ap (λ l. b ∷ l) (
-    ap (others b) (firsts_append bs cs)
-    ∙ (filter_append (λ c. not (c.0 == b.0)) (firsts bs) (filter (λ c. not (bound (firsts bs) c.0)) (firsts cs))
-    ∙ ap (λ l. others b (firsts bs) ++ l) (filter_filter (λ c. not (c.0 == b.0)) (λ c. not (bound (firsts bs) c.0)) (firsts cs)
-    ∙ filter_alike _ _ (λ c. unbound_by_both b (firsts bs) c) (firsts cs))))
+first_entries_append (b ∷ bs) cs = ap (λ l. b ∷ l) (
+    ap (others b) (first_entries_append bs cs)
+    ∙ (filter_append (λ c. not (c.0 == b.0)) (first_entries bs) (filter (λ c. not (has_entry (first_entries bs) c.0)) (first_entries cs))
+    ∙ ap (λ l. others b (first_entries bs) ++ l) (filter_filter (λ c. not (c.0 == b.0)) (λ c. not (has_entry (first_entries bs) c.0)) (first_entries cs)
+    ∙ filter_alike _ _ (λ c. unbound_by_both b (first_entries bs) c) (first_entries cs))))
 
-pub firsts_filter : {X : Type 0} (test : ℕ → Bool) → (bs : Binding X) → firsts (filter (λ c. test c.0) bs) ≡ filter (λ c. test c.0) (firsts bs)
-firsts_filter test [] = refl
-firsts_filter {X} test (b ∷ bs) = go (test b.0) refl (firsts_filter test bs)
+pub first_entries_filter : {X : Type 0} (test : ℕ → Bool) → (bs : Binding X) → first_entries (filter (λ c. test c.0) bs) ≡ filter (λ c. test c.0) (first_entries bs)
+first_entries_filter test [] = refl
+first_entries_filter {X} test (b ∷ bs) = go (test b.0) refl (first_entries_filter test bs)
   where
     kept : (c : ℕ × X) (t : Bool) → test c.0 ≡ t → test b.0 ≡ false → (not (c.0 == b.0) && t) ≡ t
     kept c true e h = ap (λ u. not u && true) (same_tests (c.0 == b.0) false (λ k. sym (sym e ∙ (ap test (eqb-true c.0 b.0 k) ∙ h))) (λ k. absurd (false≢true k)))
     kept c false e h = and_false (not (c.0 == b.0))
 
-    go : (t : Bool) → test b.0 ≡ t → firsts (filter (λ c. test c.0) bs) ≡ filter (λ c. test c.0) (firsts bs)
-        → firsts (cond t (b ∷ filter (λ c. test c.0) bs) (filter (λ c. test c.0) bs)) ≡ cond t (b ∷ filter (λ c. test c.0) (others b (firsts bs))) (filter (λ c. test c.0) (others b (firsts bs)))
-    go true e ih = ap (λ l. b ∷ l) (ap (others b) ih ∙ filter_comm (λ c. not (c.0 == b.0)) (λ c. test c.0) (firsts bs))
-    go false e ih = ih ∙ sym (filter_filter (λ c. test c.0) (λ c. not (c.0 == b.0)) (firsts bs) ∙ filter_alike _ _ (λ c. kept c (test c.0) refl e) (firsts bs))
+    go : (t : Bool) → test b.0 ≡ t → first_entries (filter (λ c. test c.0) bs) ≡ filter (λ c. test c.0) (first_entries bs)
+        → first_entries (cond t (b ∷ filter (λ c. test c.0) bs) (filter (λ c. test c.0) bs)) ≡ cond t (b ∷ filter (λ c. test c.0) (others b (first_entries bs))) (filter (λ c. test c.0) (others b (first_entries bs)))
+    go true e ih = ap (λ l. b ∷ l) (ap (others b) ih ∙ filter_comm (λ c. not (c.0 == b.0)) (λ c. test c.0) (first_entries bs))
+    go false e ih = ih ∙ sym (filter_filter (λ c. test c.0) (λ c. not (c.0 == b.0)) (first_entries bs) ∙ filter_alike _ _ (λ c. kept c (test c.0) refl e) (first_entries bs))
 
-pub firsts_firsts : {X : Type 0} → (bs : Binding X) → firsts (firsts bs) ≡ firsts bs
-firsts_firsts [] = refl
-firsts_firsts (b ∷ bs) = ap (λ l. b ∷ l) (
-    ap (others b) (firsts_filter (λ w. not (w == b.0)) (firsts bs))
-    ∙ (filter_filter (λ c. not (c.0 == b.0)) (λ c. not (c.0 == b.0)) (firsts (firsts bs))
-    ∙ (filter_alike _ _ (λ c. twice (not (c.0 == b.0))) (firsts (firsts bs))
-    ∙ ap (others b) (firsts_firsts bs))))
+pub first_entries_first_entries : {X : Type 0} → (bs : Binding X) → first_entries (first_entries bs) ≡ first_entries bs
+first_entries_first_entries [] = refl
+first_entries_first_entries (b ∷ bs) = ap (λ l. b ∷ l) (
+    ap (others b) (first_entries_filter (λ w. not (w == b.0)) (first_entries bs))
+    ∙ (filter_filter (λ c. not (c.0 == b.0)) (λ c. not (c.0 == b.0)) (first_entries (first_entries bs))
+    ∙ (filter_alike _ _ (λ c. twice (not (c.0 == b.0))) (first_entries (first_entries bs))
+    ∙ ap (others b) (first_entries_first_entries bs))))
   where
     twice : (t : Bool) → (t && t) ≡ t
     twice true = refl
@@ -165,13 +165,13 @@ consistent_filter joins test (b ∷ bs) e = go (test b) (and_parts (list_all (ag
     go false h ih = ih
 
 -- a row in which each variable stands once is consistent
-pub consistent_firsts : {X : Type 0} (joins : X → X → Bool) → (bs : Binding X) → consistent joins (firsts bs) ≡ true
-consistent_firsts joins [] = refl
-consistent_firsts joins (b ∷ bs) = and_from (list_all (agree joins b) (others b (firsts bs))) (consistent joins (others b (firsts bs)))
-    (all_kept (agree joins b) (λ c. not (c.0 == b.0)) (λ c e. ap (λ t. t || joins b.1 c.1) (ap not (nat_eq_sym b.0 c.0) ∙ e)) (firsts bs))
-    (consistent_filter joins (λ c. not (c.0 == b.0)) (firsts bs) (consistent_firsts joins bs))
+pub consistent_first_entries : {X : Type 0} (joins : X → X → Bool) → (bs : Binding X) → consistent joins (first_entries bs) ≡ true
+consistent_first_entries joins [] = refl
+consistent_first_entries joins (b ∷ bs) = and_from (list_all (agree joins b) (others b (first_entries bs))) (consistent joins (others b (first_entries bs)))
+    (all_kept (agree joins b) (λ c. not (c.0 == b.0)) (λ c e. ap (λ t. t || joins b.1 c.1) (ap not (nat_eq_sym b.0 c.0) ∙ e)) (first_entries bs))
+    (consistent_filter joins (λ c. not (c.0 == b.0)) (first_entries bs) (consistent_first_entries joins bs))
 
--- places that are left out because an agreeing one stands before them
+-- entries that are left out because an agreeing one stands before them
 all_but_equal : {X : Type 0} (joins : X → X → Bool) → IsSound joins → (p : ℕ × X → Bool) (b : ℕ × X) → p b ≡ true
     → (cs : Binding X) → list_all (agree joins b) cs ≡ true → list_all p (others b cs) ≡ list_all p cs
 all_but_equal joins s p b h [] e = refl
@@ -187,22 +187,22 @@ all_but_equal joins s p b h (c ∷ cs) e = go (c.0 == b.0) refl (and_parts (agre
         ap₂ (λ m x. p (m, x)) (eqb-true c.0 b.0 i) (sym (s b.1 c.1 (joined_there (b.0 == c.0) refl (nat_eq_sym b.0 c.0 ∙ i) a))) ∙ h))
     go false i a ih = ap (λ t. p c && t) ih
 
-pub all_firsts : {X : Type 0} (joins : X → X → Bool) → IsSound joins → (bs : Binding X) → consistent joins bs ≡ true → (p : ℕ × X → Bool) → list_all p (firsts bs) ≡ list_all p bs
-all_firsts joins s [] e p = refl
-all_firsts joins s (b ∷ bs) e p = and_under (p b) (list_all p (others b (firsts bs))) (list_all p bs) (λ h.
-    all_but_equal joins s p b h (firsts bs) (all_firsts joins s bs (and_parts (list_all (agree joins b) bs) (consistent joins bs) e).1 (agree joins b) ∙ (and_parts (list_all (agree joins b) bs) (consistent joins bs) e).0)
-    ∙ all_firsts joins s bs (and_parts (list_all (agree joins b) bs) (consistent joins bs) e).1 p)
+pub all_first_entries : {X : Type 0} (joins : X → X → Bool) → IsSound joins → (bs : Binding X) → consistent joins bs ≡ true → (p : ℕ × X → Bool) → list_all p (first_entries bs) ≡ list_all p bs
+all_first_entries joins s [] e p = refl
+all_first_entries joins s (b ∷ bs) e p = and_under (p b) (list_all p (others b (first_entries bs))) (list_all p bs) (λ h.
+    all_but_equal joins s p b h (first_entries bs) (all_first_entries joins s bs (and_parts (list_all (agree joins b) bs) (consistent joins bs) e).1 (agree joins b) ∙ (and_parts (list_all (agree joins b) bs) (consistent joins bs) e).0)
+    ∙ all_first_entries joins s bs (and_parts (list_all (agree joins b) bs) (consistent joins bs) e).1 p)
 
-pub meet_firsts : {X : Type 0} (joins : X → X → Bool) → IsSound joins → (bs cs : Binding X) → consistent joins bs ≡ true → consistent joins cs ≡ true
-    → meet joins (firsts bs) (firsts cs) ≡ meet joins bs cs
-meet_firsts joins s bs cs e h =
-    all_alike _ _ (λ b. all_firsts joins s cs h (agree joins b)) (firsts bs)
-    ∙ all_firsts joins s bs e (λ b. list_all (agree joins b) cs)
+pub meet_first_entries : {X : Type 0} (joins : X → X → Bool) → IsSound joins → (bs cs : Binding X) → consistent joins bs ≡ true → consistent joins cs ≡ true
+    → meet joins (first_entries bs) (first_entries cs) ≡ meet joins bs cs
+meet_first_entries joins s bs cs e h =
+    all_alike _ _ (λ b. all_first_entries joins s cs h (agree joins b)) (first_entries bs)
+    ∙ all_first_entries joins s bs e (λ b. list_all (agree joins b) cs)
 
 -- ---- the value that rows which meet share
 
 agreed_value : {X : Type 0} (joins : X → X → Bool) → IsSound joins → (b : ℕ × X) (v : ℕ) → (b.0 == v) ≡ true
-    → (cs : Binding X) → list_all (agree joins b) cs ≡ true → bound cs v ≡ true → value_of cs v ≡ Some b.1
+    → (cs : Binding X) → list_all (agree joins b) cs ≡ true → has_entry cs v ≡ true → value_of cs v ≡ Some b.1
 agreed_value joins s b v e [] a k = absurd (false≢true k)
 agreed_value joins s b v e (c ∷ cs) a k = go (c.0 == v) refl k (and_parts (agree joins b c) (list_all (agree joins b) cs) a).0 (agreed_value joins s b v e cs (and_parts (agree joins b c) (list_all (agree joins b) cs) a).1)
   where
@@ -210,37 +210,37 @@ agreed_value joins s b v e (c ∷ cs) a k = go (c.0 == v) refl k (and_parts (agr
     equal_there true j k = k
     equal_there false j k = absurd (false≢true j)
 
-    go : (t : Bool) → (c.0 == v) ≡ t → (t || bound cs v) ≡ true → agree joins b c ≡ true → (bound cs v ≡ true → value_of cs v ≡ Some b.1) → cond t (Some c.1) (value_of cs v) ≡ Some b.1
+    go : (t : Bool) → (c.0 == v) ≡ t → (t || has_entry cs v) ≡ true → agree joins b c ≡ true → (has_entry cs v ≡ true → value_of cs v ≡ Some b.1) → cond t (Some c.1) (value_of cs v) ≡ Some b.1
     go true i j h ih = ap Some (sym (s b.1 c.1 (equal_there (b.0 == c.0) (eq-eqb b.0 c.0 (eqb-true b.0 v e ∙ sym (eqb-true c.0 v i))) h)))
     go false i j h ih = ih j
 
-pub met_value : {X : Type 0} (joins : X → X → Bool) → IsSound joins → (bs cs : Binding X) (v : ℕ) → meet joins bs cs ≡ true → bound bs v ≡ true → bound cs v ≡ true → value_of bs v ≡ value_of cs v
+pub met_value : {X : Type 0} (joins : X → X → Bool) → IsSound joins → (bs cs : Binding X) (v : ℕ) → meet joins bs cs ≡ true → has_entry bs v ≡ true → has_entry cs v ≡ true → value_of bs v ≡ value_of cs v
 met_value joins s [] cs v m h k = absurd (false≢true h)
 met_value joins s (b ∷ bs) cs v m h k = go (b.0 == v) refl h (and_parts (list_all (agree joins b) cs) (meet joins bs cs) m).0 (λ j. met_value joins s bs cs v (and_parts (list_all (agree joins b) cs) (meet joins bs cs) m).1 j k)
   where
-    go : (t : Bool) → (b.0 == v) ≡ t → (t || bound bs v) ≡ true → list_all (agree joins b) cs ≡ true → (bound bs v ≡ true → value_of bs v ≡ value_of cs v) → cond t (Some b.1) (value_of bs v) ≡ value_of cs v
+    go : (t : Bool) → (b.0 == v) ≡ t → (t || has_entry bs v) ≡ true → list_all (agree joins b) cs ≡ true → (has_entry bs v ≡ true → value_of bs v ≡ value_of cs v) → cond t (Some b.1) (value_of bs v) ≡ value_of cs v
     go true e j a ih = sym (agreed_value joins s b v e cs a k)
     go false e j a ih = ih j
 
-pub value_of_glue : {X : Type 0} → (bs cs : Binding X) (v : ℕ) → value_of (glue bs cs) v ≡ cond (bound bs v) (value_of bs v) (value_of cs v)
-value_of_glue bs cs v = value_of_append bs (filter (λ c. not (bound bs c.0)) cs) v ∙ go (bound bs v) refl
+pub value_of_glue : {X : Type 0} → (bs cs : Binding X) (v : ℕ) → value_of (glue bs cs) v ≡ cond (has_entry bs v) (value_of bs v) (value_of cs v)
+value_of_glue bs cs v = value_of_append bs (filter (λ c. not (has_entry bs c.0)) cs) v ∙ go (has_entry bs v) refl
   where
-    go : (t : Bool) → bound bs v ≡ t → cond t (value_of bs v) (value_of (filter (λ c. not (bound bs c.0)) cs) v) ≡ cond t (value_of bs v) (value_of cs v)
+    go : (t : Bool) → has_entry bs v ≡ t → cond t (value_of bs v) (value_of (filter (λ c. not (has_entry bs c.0)) cs) v) ≡ cond t (value_of bs v) (value_of cs v)
     go true e = refl
-    go false e = value_of_filter (λ w. not (bound bs w)) cs v (ap not e)
+    go false e = value_of_filter (λ w. not (has_entry bs w)) cs v (ap not e)
 
-pub bound_glue : {X : Type 0} → (bs cs : Binding X) (v : ℕ) → bound (glue bs cs) v ≡ (bound bs v || bound cs v)
-bound_glue bs cs v = bound_append bs (filter (λ c. not (bound bs c.0)) cs) v ∙ go (bound bs v) refl
+pub bound_glue : {X : Type 0} → (bs cs : Binding X) (v : ℕ) → has_entry (glue bs cs) v ≡ (has_entry bs v || has_entry cs v)
+bound_glue bs cs v = bound_append bs (filter (λ c. not (has_entry bs c.0)) cs) v ∙ go (has_entry bs v) refl
   where
-    go : (t : Bool) → bound bs v ≡ t → (t || bound (filter (λ c. not (bound bs c.0)) cs) v) ≡ (t || bound cs v)
+    go : (t : Bool) → has_entry bs v ≡ t → (t || has_entry (filter (λ c. not (has_entry bs c.0)) cs) v) ≡ (t || has_entry cs v)
     go true e = refl
-    go false e = bound_filter (λ w. not (bound bs w)) cs v (ap not e)
+    go false e = bound_filter (λ w. not (has_entry bs w)) cs v (ap not e)
 
 -- rows that meet give each variable the same value, whichever stands first
 pub value_of_swapped : {X : Type 0} (joins : X → X → Bool) → IsSound joins → (bs cs : Binding X) (v : ℕ) → meet joins bs cs ≡ true → value_of (bs ++ cs) v ≡ value_of (cs ++ bs) v
-value_of_swapped joins s bs cs v m = value_of_append bs cs v ∙ (go (bound bs v) refl (bound cs v) refl ∙ sym (value_of_append cs bs v))
+value_of_swapped joins s bs cs v m = value_of_append bs cs v ∙ (go (has_entry bs v) refl (has_entry cs v) refl ∙ sym (value_of_append cs bs v))
   where
-    go : (t : Bool) → bound bs v ≡ t → (u : Bool) → bound cs v ≡ u → cond t (value_of bs v) (value_of cs v) ≡ cond u (value_of cs v) (value_of bs v)
+    go : (t : Bool) → has_entry bs v ≡ t → (u : Bool) → has_entry cs v ≡ u → cond t (value_of bs v) (value_of cs v) ≡ cond u (value_of cs v) (value_of bs v)
     go true e true h = met_value joins s bs cs v m e h
     go true e false h = refl
     go false e true h = refl

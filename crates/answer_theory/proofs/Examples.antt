@@ -1,9 +1,9 @@
 -- Worked examples, computed on the definitions.
 use Rattle.std.proofs.Common.{nat_lt, nat_le, ◌&&◌, Option, None, ◌≡◌, ℕ, zero, suc, ◌+◌, Bool, true, false, nat_eq, List, [], ◌∷◌, map, length, Some, refl}
 use Rattle.answer_theory.specs.Bindings.{Binding, value_of}
-use Rattle.answer_theory.specs.Solutions.{combine, solutions, joined, heads}
-use Rattle.answer_theory.specs.Trees.{Tree, Leaf, Scan, Join, given, expand}
-use Rattle.answer_theory.specs.Choices.{place_lists, choices, fitting}
+use Rattle.answer_theory.specs.Solutions.{combinations, solutions, joined_rows, keys}
+use Rattle.answer_theory.specs.Trees.{Tree, Leaf, Scan, Join, given_rows, expansion}
+use Rattle.answer_theory.specs.Choices.{index_lists, choices, fitting_rows}
 use Rattle.answer_theory.specs.Rows.{over}
 
 abbrev all : Binding ℕ → Bool
@@ -30,30 +30,30 @@ s_leaf = map (over (1 ∷ 2 ∷ [])) s
 abbrev found : List (Binding ℕ)
 found = over (0 ∷ 1 ∷ 2 ∷ []) (2 ∷ 20 ∷ 102 ∷ []) ∷ over (0 ∷ 1 ∷ 2 ∷ []) (3 ∷ 30 ∷ 103 ∷ []) ∷ []
 
-nine_ways : length (combine (r_leaf ∷ s_leaf ∷ [])) ≡ 9
+nine_ways : length (combinations (r_leaf ∷ s_leaf ∷ [])) ≡ 9
 nine_ways = refl
 
 two_solutions : solutions nat_eq all (r_leaf ∷ s_leaf ∷ []) ≡ found
 two_solutions = refl
 
-two_heads : heads (0 ∷ 2 ∷ []) (solutions nat_eq all (r_leaf ∷ s_leaf ∷ [])) ≡ (Some 2 ∷ Some 102 ∷ []) ∷ (Some 3 ∷ Some 103 ∷ []) ∷ []
-two_heads = refl
+two_keys : keys (0 ∷ 2 ∷ []) (solutions nat_eq all (r_leaf ∷ s_leaf ∷ [])) ≡ (Some 2 ∷ Some 102 ∷ []) ∷ (Some 3 ∷ Some 103 ∷ []) ∷ []
+two_keys = refl
 
-two_joined : joined nat_eq all r_leaf s_leaf ≡ found
+two_joined : joined_rows nat_eq all r_leaf s_leaf ≡ found
 two_joined = refl
 
 -- the same by a tree, and by one whose left part is a finished fragment in table 7
 tree : Tree ℕ
 tree = Join all (Leaf (0 ∷ 1 ∷ []) all r_leaf) (Leaf (1 ∷ 2 ∷ []) all s_leaf)
 
-by_a_tree : given nat_eq (λ f. []) tree ≡ found
+by_a_tree : given_rows nat_eq (λ f. []) tree ≡ found
 unfolding tree
 by_a_tree = refl
 
-by_a_fragment : given nat_eq (λ f. r_leaf) (Join all (Scan (0 ∷ 1 ∷ []) 7) (Leaf (1 ∷ 2 ∷ []) all s_leaf)) ≡ found
+by_a_fragment : given_rows nat_eq (λ f. r_leaf) (Join all (Scan (0 ∷ 1 ∷ []) 7) (Leaf (1 ∷ 2 ∷ []) all s_leaf)) ≡ found
 by_a_fragment = refl
 
-expanded : expand (λ f. Leaf (0 ∷ 1 ∷ []) all r_leaf) (Join all (Scan (0 ∷ 1 ∷ []) 7) (Leaf (1 ∷ 2 ∷ []) all s_leaf)) ≡ tree
+expanded : expansion (λ f. Leaf (0 ∷ 1 ∷ []) all r_leaf) (Join all (Scan (0 ∷ 1 ∷ []) 7) (Leaf (1 ∷ 2 ∷ []) all s_leaf)) ≡ tree
 unfolding tree
 expanded = refl
 
@@ -74,26 +74,26 @@ fits it = true
 abbrev atoms : List (List (ℕ × List ℕ))
 atoms = map (item 0) e ∷ map (item 1) e ∷ []
 
-sixteen_ways : length (place_lists atoms) ≡ 16
+sixteen_ways : length (index_lists atoms) ≡ 16
 sixteen_ways = refl
 
 three_choices : choices nat_eq fits binding all atoms ≡ two 0 1 ∷ two 0 2 ∷ two 1 3 ∷ []
 three_choices = refl
 
-three_heads : heads (0 ∷ 2 ∷ []) (solutions nat_eq all (map (fitting fits binding) atoms)) ≡ (Some 1 ∷ Some 3 ∷ []) ∷ (Some 1 ∷ Some 4 ∷ []) ∷ (Some 2 ∷ Some 4 ∷ []) ∷ []
-three_heads = refl
+three_keys : keys (0 ∷ 2 ∷ []) (solutions nat_eq all (map (fitting_rows fits binding) atoms)) ≡ (Some 1 ∷ Some 3 ∷ []) ∷ (Some 1 ∷ Some 4 ∷ []) ∷ (Some 2 ∷ Some 4 ∷ []) ∷ []
+three_keys = refl
 
 -- ---- a product of three rows and four: nothing is shared, and each pair agrees
 
 twelve : length (solutions nat_eq all (map (over (0 ∷ [])) ((1 ∷ []) ∷ (2 ∷ []) ∷ (3 ∷ []) ∷ []) ∷ map (over (1 ∷ [])) ((4 ∷ []) ∷ (5 ∷ []) ∷ (6 ∷ []) ∷ (7 ∷ []) ∷ []) ∷ [])) ≡ 12
 twelve = refl
 
--- ---- a variable at two places of one atom: q(x) over e(x, x)
+-- ---- a variable at two entries of one atom: q(x) over e(x, x)
 
 repeated : solutions nat_eq all (map (over (0 ∷ 0 ∷ [])) (two 5 6 ∷ two 7 7 ∷ []) ∷ []) ≡ over (0 ∷ []) (7 ∷ []) ∷ []
 repeated = refl
 
--- ---- a value that joins with nothing, here 0: it is found where its variable has one place, and nowhere else
+-- ---- a value that joins with nothing, here 0: it is found where its variable has one entry, and nowhere else
 
 joins : ℕ → ℕ → Bool
 joins zero y = false
@@ -144,6 +144,6 @@ trips = map (item 0) (flight 11 1 2 310 ∷ flight 11 1 2 310 ∷ flight 12 1 5 
 four_choices : choices nat_eq flight_fits flight_binding cheap trips ≡ three 0 0 0 ∷ three 1 0 0 ∷ three 4 2 1 ∷ three 4 2 2 ∷ []
 four_choices = refl
 
-four_heads : heads (0 ∷ 3 ∷ 5 ∷ []) (solutions nat_eq cheap (map (fitting flight_fits flight_binding) trips))
+four_keys : keys (0 ∷ 3 ∷ 5 ∷ []) (solutions nat_eq cheap (map (fitting_rows flight_fits flight_binding) trips))
     ≡ map (map Some) (three 11 21 31 ∷ three 11 21 31 ∷ three 14 23 31 ∷ three 14 23 32 ∷ [])
-four_heads = refl
+four_keys = refl

@@ -6,30 +6,30 @@ use Rattle.answer_theory.proofs.Bags.{bag_sym}
 use Rattle.answer_theory.proofs.Bools.{nat_eq_self}
 use Rattle.std.proofs.lemmas.List.Elements.{All-from_recursion, recursion_from_All}
 use Rattle.answer_theory.specs.Bags.{SameBag}
-use Rattle.answer_theory.specs.Bindings.{Binding, IsSound, bound, firsts}
+use Rattle.answer_theory.specs.Bindings.{Binding, IsSound, has_entry, first_entries}
 use Rattle.answer_theory.specs.Solutions.{names, Binds}
 use Rattle.answer_theory.specs.Trees.{Tree, variables, IsRowOf, no_tables, Holds}
-use Rattle.answer_theory.specs.Rows.{named, AreDistinct}
+use Rattle.answer_theory.specs.Rows.{binding_variables, AreDistinct}
 use Rattle.answer_theory.proofs.Lists.{each_then}
 use Rattle.answer_theory.proofs.Numbers.{bag_all}
-use Rattle.answer_theory.proofs.Rows.{keeps_others, named_firsts, each_once_distinct}
-use Rattle.answer_theory.proofs.Trees.{given_rows, binds_fewer}
+use Rattle.answer_theory.proofs.Rows.{keeps_others, named_first_entries, each_once_distinct}
+use Rattle.answer_theory.proofs.Trees.{rows_given, binds_fewer}
 
 -- ---- rows by a test
 
 abbrev binds_all : {X : Type 0} → List ℕ → Binding X → Bool
-binds_all vs b = list_all (bound b) vs
+binds_all vs b = list_all (has_entry b) vs
 
 binds_of_all : {X : Type 0} (vs : List ℕ) (b : Binding X) → binds_all vs b ≡ true → Binds vs b
 binds_of_all [] b h v e = absurd (false≢true e)
 binds_of_all (w ∷ vs) b h v e = ⊎_elim
-    (λ i. ap (bound b) (sym (eqb-true w v i)) ∙ (and_parts (bound b w) (list_all (bound b) vs) h).0)
-    (λ i. binds_of_all vs b (and_parts (bound b w) (list_all (bound b) vs) h).1 v i)
+    (λ i. ap (has_entry b) (sym (eqb-true w v i)) ∙ (and_parts (has_entry b w) (list_all (has_entry b) vs) h).0)
+    (λ i. binds_of_all vs b (and_parts (has_entry b w) (list_all (has_entry b) vs) h).1 v i)
     (or_cases (w == v) (names vs v) e)
 
 all_of_binds : {X : Type 0} (vs : List ℕ) (b : Binding X) → Binds vs b → binds_all vs b ≡ true
 all_of_binds [] b h = refl
-all_of_binds (w ∷ vs) b h = and_from (bound b w) (list_all (bound b) vs) (h w (ap (λ t. t || names vs w) (nat_eq_self w))) (all_of_binds vs b (λ v e. h v (or_right (w == v) (names vs v) e)))
+all_of_binds (w ∷ vs) b h = and_from (has_entry b w) (list_all (has_entry b) vs) (h w (ap (λ t. t || names vs w) (nat_eq_self w))) (all_of_binds vs b (λ v e. h v (or_right (w == v) (names vs v) e)))
 
 abbrev distinct : List ℕ → Bool
 distinct [] = true
@@ -43,31 +43,31 @@ distinct_true : (vs : List ℕ) → AreDistinct vs → distinct vs ≡ true
 distinct_true [] h = refl
 distinct_true (v ∷ vs) h = and_from (not (names vs v)) (distinct vs) (ap not h.0) (distinct_true vs h.1)
 
-bound_named : {X : Type 0} (b : Binding X) (v : ℕ) → bound b v ≡ names (named b) v
+bound_named : {X : Type 0} (b : Binding X) (v : ℕ) → has_entry b v ≡ names (binding_variables b) v
 bound_named [] v = refl
 bound_named (p ∷ b) v = ap (λ t. (p.0 == v) || t) (bound_named b v)
 
-once_of_distinct : {X : Type 0} (b : Binding X) → AreDistinct (named b) → firsts b ≡ b
+once_of_distinct : {X : Type 0} (b : Binding X) → AreDistinct (binding_variables b) → first_entries b ≡ b
 once_of_distinct [] h = refl
 once_of_distinct (p ∷ b) h = ap (λ l. p ∷ l) (ap (filter (λ c. not (c.0 == p.0))) (once_of_distinct b h.1) ∙ keeps_others p.0 b (bound_named b p.0 ∙ h.0))
 
-distinct_of_once : {X : Type 0} (b : Binding X) → firsts b ≡ b → AreDistinct (named b)
-distinct_of_once b e = subst AreDistinct (sym (named_firsts b) ∙ ap named e) (each_once_distinct (named b))
+distinct_of_once : {X : Type 0} (b : Binding X) → first_entries b ≡ b → AreDistinct (binding_variables b)
+distinct_of_once b e = subst AreDistinct (sym (named_first_entries b) ∙ ap binding_variables e) (each_once_distinct (binding_variables b))
 
 abbrev is_row : {X : Type 0} → List ℕ → Binding X → Bool
-is_row vs b = binds_all vs b && distinct (named b)
+is_row vs b = binds_all vs b && distinct (binding_variables b)
 
 tested : {X : Type 0} (vs : List ℕ) (rows : List (Binding X)) → AllByRecursion (IsRowOf vs) rows → list_all (is_row vs) rows ≡ true
 tested vs [] all = refl
 tested vs (b ∷ rows) all = and_from (is_row vs b) (list_all (is_row vs) rows)
-    (and_from (binds_all vs b) (distinct (named b)) (all_of_binds vs b all.0.binds) (distinct_true (named b) (distinct_of_once b all.0.once)))
+    (and_from (binds_all vs b) (distinct (binding_variables b)) (all_of_binds vs b all.0.binds) (distinct_true (binding_variables b) (distinct_of_once b all.0.once)))
     (tested vs rows all.1)
 
 rows_of_tested : {X : Type 0} (vs : List ℕ) (rows : List (Binding X)) → list_all (is_row vs) rows ≡ true → AllByRecursion (IsRowOf vs) rows
 rows_of_tested vs [] e = tt
 rows_of_tested vs (b ∷ rows) e =
     let here : is_row vs b ≡ true = (and_parts (is_row vs b) (list_all (is_row vs) rows) e).0 in (
-      record { binds = binds_of_all vs b (and_parts (binds_all vs b) (distinct (named b)) here).0; once = once_of_distinct b (are_distinct (named b) (and_parts (binds_all vs b) (distinct (named b)) here).1) },
+      record { binds = binds_of_all vs b (and_parts (binds_all vs b) (distinct (binding_variables b)) here).0; once = once_of_distinct b (are_distinct (binding_variables b) (and_parts (binds_all vs b) (distinct (binding_variables b)) here).1) },
       rows_of_tested vs rows (and_parts (is_row vs b) (list_all (is_row vs) rows) e).1,
     )
 
@@ -82,4 +82,4 @@ fewer us vs h b k = record { binds = binds_fewer us vs b h k.binds; once = k.onc
 -- a table that holds what a tree gives can be scanned
 pub held_rows : {X : Type 0} (joins : X → X → Bool) → IsSound joins → (vs : List ℕ) (table : List (Binding X)) (tree : Tree X) → Holds joins vs table tree → All (IsRowOf vs) table
 held_rows joins s vs table tree h = All-from_recursion _ table (each_then (IsRowOf (variables tree)) (IsRowOf vs) (fewer vs (variables tree) h.covers) table
-    (recursion_from_All _ table (bag_rows (variables tree) (bag_sym h.rows) (given_rows joins s no_tables tree h.placed))))
+    (recursion_from_All _ table (bag_rows (variables tree) (bag_sym h.rows) (rows_given joins s no_tables tree h.placed))))

@@ -1,38 +1,38 @@
 -- The laws of pairs.
 use Rattle.std.proofs.Common.{◌≡◌, ℕ, ◌+◌, arith, Bool, true, false, cond, not, ◌&&◌, ◌||◌, List, [], ◌∷◌, ◌++◌, filter, flat_map, All, refl, sym, ap, ap₂, ◌∙◌, append-nil}
 use Rattle.std.proofs.lemmas.List.Elements.{recursion_from_All}
-use Rattle.answer_theory.specs.Bags.{weigh, SameBag}
+use Rattle.answer_theory.specs.Bags.{weight_of, SameBag}
 use Rattle.answer_theory.specs.Bindings.{Binding, meet, glue}
-use Rattle.answer_theory.specs.Solutions.{only, joined}
+use Rattle.answer_theory.specs.Solutions.{only, joined_rows}
 use Rattle.answer_theory.specs.Pairs.{pairs, AlikeOn}
-use Rattle.answer_theory.proofs.Bags.{weigh_flat_map, weigh_alike, weigh_sum, weigh_append, bag_trans, bag_from_same, bag_append_comm, bag_flat_map, bag_flat_map_alike}
+use Rattle.answer_theory.proofs.Bags.{weight_of_flat_map, weight_of_alike, weight_of_sum, weight_of_append, bag_trans, bag_from_same, bag_append_comm, bag_flat_map, bag_flat_map_alike}
 use Rattle.answer_theory.proofs.Lists.{flat_map_filter, flat_map_append, flat_map_flat_map, flat_map_alike, flat_map_alike_in}
 use Rattle.answer_theory.proofs.Solutions.{flat_map_only, cond_flat_map}
 
 -- ---- what pairs weigh
 
 abbrev weight : {L R : Type 0} → (L × R → ℕ) → (L → R → Bool) → L → R → ℕ
-weight {L} {R} f p l r = weigh f (only {X = L × R} (p l r) (l, r))
+weight {L} {R} f p l r = weight_of f (only {X = L × R} (p l r) (l, r))
 
-weigh_pairs : {L R : Type 0} (f : L × R → ℕ) (p : L → R → Bool) (ls : List L) (rs : List R) → weigh f (pairs p ls rs) ≡ weigh (λ l. weigh (weight f p l) rs) ls
-weigh_pairs f p ls rs = weigh_flat_map _ f ls ∙ weigh_alike _ _ (λ l. weigh_flat_map _ f rs) ls
+weight_of_pairs : {L R : Type 0} (f : L × R → ℕ) (p : L → R → Bool) (ls : List L) (rs : List R) → weight_of f (pairs p ls rs) ≡ weight_of (λ l. weight_of (weight f p l) rs) ls
+weight_of_pairs f p ls rs = weight_of_flat_map _ f ls ∙ weight_of_alike _ _ (λ l. weight_of_flat_map _ f rs) ls
 
 -- a test that holds where exactly one of two tests holds
-pub pairs_apart : {L R : Type 0} (p q s : L → R → Bool) → ((l : L) (r : R) → (t : L × R) → (f : L × R → ℕ) → weigh f (only (s l r) t) ≡ weigh f (only (p l r) t) + weigh f (only (q l r) t))
+pub pairs_apart : {L R : Type 0} (p q s : L → R → Bool) → ((l : L) (r : R) → (t : L × R) → (f : L × R → ℕ) → weight_of f (only (s l r) t) ≡ weight_of f (only (p l r) t) + weight_of f (only (q l r) t))
     → (ls : List L) (rs : List R) → SameBag (pairs s ls rs) (pairs p ls rs ++ pairs q ls rs)
 pairs_apart p q s h ls rs = record {
   weighs = λ f.
-      weigh_pairs f s ls rs
-      ∙ (weigh_alike _ _ (λ l. weigh_alike _ _ (λ r. h l r (l, r) f) rs ∙ weigh_sum (weight f p l) (weight f q l) rs) ls
-      ∙ (weigh_sum (λ l. weigh (weight f p l) rs) (λ l. weigh (weight f q l) rs) ls
-      ∙ (sym (ap₂ (λ m n. m + n) (weigh_pairs f p ls rs) (weigh_pairs f q ls rs))
-      ∙ sym (weigh_append f (pairs p ls rs) (pairs q ls rs)))));
+      weight_of_pairs f s ls rs
+      ∙ (weight_of_alike _ _ (λ l. weight_of_alike _ _ (λ r. h l r (l, r) f) rs ∙ weight_of_sum (weight f p l) (weight f q l) rs) ls
+      ∙ (weight_of_sum (λ l. weight_of (weight f p l) rs) (λ l. weight_of (weight f q l) rs) ls
+      ∙ (sym (ap₂ (λ m n. m + n) (weight_of_pairs f p ls rs) (weight_of_pairs f q ls rs))
+      ∙ sym (weight_of_append f (pairs p ls rs) (pairs q ls rs)))));
 }
 
 pub pairs_parted : {L R : Type 0} (p t : L → R → Bool) (ls : List L) (rs : List R) → SameBag (pairs p ls rs) (pairs (λ l r. p l r && t l r) ls rs ++ pairs (λ l r. p l r && not (t l r)) ls rs)
 pairs_parted {L} {R} p t = pairs_apart _ _ p (λ l r. go (p l r) (t l r))
   where
-    go : (a b : Bool) (x : L × R) (f : L × R → ℕ) → weigh f (only a x) ≡ weigh f (only (a && b) x) + weigh f (only (a && not b) x)
+    go : (a b : Bool) (x : L × R) (f : L × R → ℕ) → weight_of f (only a x) ≡ weight_of f (only (a && b) x) + weight_of f (only (a && not b) x)
     go true true x f = omega arith
     go true false x f = omega arith
     go false b x f = refl
@@ -41,7 +41,7 @@ pairs_parted {L} {R} p t = pairs_apart _ _ p (λ l r. go (p l r) (t l r))
 pub pairs_added : {L R : Type 0} (p t : L → R → Bool) (ls : List L) (rs : List R) → SameBag (pairs (λ l r. p l r || t l r) ls rs) (pairs p ls rs ++ pairs (λ l r. not (p l r) && t l r) ls rs)
 pairs_added {L} {R} p t = pairs_apart _ _ _ (λ l r. go (p l r) (t l r))
   where
-    go : (a b : Bool) (x : L × R) (f : L × R → ℕ) → weigh f (only (a || b) x) ≡ weigh f (only a x) + weigh f (only (not a && b) x)
+    go : (a b : Bool) (x : L × R) (f : L × R → ℕ) → weight_of f (only (a || b) x) ≡ weight_of f (only a x) + weight_of f (only (not a && b) x)
     go true b x f = omega arith
     go false true x f = omega arith
     go false false x f = refl
@@ -91,11 +91,11 @@ pairs_append_left {L} {R} p ls ms rs = flat_map_append (λ l. flat_map (λ r. on
 pub pairs_append_right : {L R : Type 0} (p : L → R → Bool) (ls : List L) (rs ss : List R) → SameBag (pairs p ls (rs ++ ss)) (pairs p ls rs ++ pairs p ls ss)
 pairs_append_right {L} {R} p ls rs ss = record {
   weighs = λ f.
-      weigh_pairs f p ls (rs ++ ss)
-      ∙ (weigh_alike _ _ (λ l. weigh_append (weight f p l) rs ss) ls
-      ∙ (weigh_sum (λ l. weigh (weight f p l) rs) (λ l. weigh (weight f p l) ss) ls
-      ∙ (sym (ap₂ (λ m n. m + n) (weigh_pairs f p ls rs) (weigh_pairs f p ls ss))
-      ∙ sym (weigh_append f (pairs p ls rs) (pairs p ls ss)))));
+      weight_of_pairs f p ls (rs ++ ss)
+      ∙ (weight_of_alike _ _ (λ l. weight_of_append (weight f p l) rs ss) ls
+      ∙ (weight_of_sum (λ l. weight_of (weight f p l) rs) (λ l. weight_of (weight f p l) ss) ls
+      ∙ (sym (ap₂ (λ m n. m + n) (weight_of_pairs f p ls rs) (weight_of_pairs f p ls ss))
+      ∙ sym (weight_of_append f (pairs p ls rs) (pairs p ls ss)))));
 }
 
 pub bag_pairs : {L R : Type 0} (p : L → R → Bool) → {ls ms : List L} {rs ss : List R} → SameBag ls ms → SameBag rs ss → SameBag (pairs p ls rs) (pairs p ms ss)
@@ -106,7 +106,7 @@ bag_pairs {L} {R} p {ls} {ms} {rs} {ss} h k = bag_trans
 -- ---- joined rows are the glued pairs that meet
 
 pub joined_pairs : {X : Type 0} (joins : X → X → Bool) (test : Binding X → Bool) (ls rs : List (Binding X))
-    → joined joins test ls rs ≡ flat_map (λ p. only (test (glue p.0 p.1)) (glue p.0 p.1)) (pairs (meet joins) ls rs)
+    → joined_rows joins test ls rs ≡ flat_map (λ p. only (test (glue p.0 p.1)) (glue p.0 p.1)) (pairs (meet joins) ls rs)
 joined_pairs {X} joins test ls rs = sym (
     flat_map_flat_map (λ p. only (test (glue p.0 p.1)) (glue p.0 p.1)) (λ l. flat_map (λ r. only {X = Binding X × Binding X} (meet joins l r) (l, r)) rs) ls
     ∙ flat_map_alike _ _ (λ l.
@@ -117,10 +117,10 @@ joined_pairs {X} joins test ls rs = sym (
     go true b g = refl
     go false b g = refl
 
-pub joined_append_left : {X : Type 0} (joins : X → X → Bool) (test : Binding X → Bool) (ls ms rs : List (Binding X)) → joined joins test (ls ++ ms) rs ≡ joined joins test ls rs ++ joined joins test ms rs
+pub joined_append_left : {X : Type 0} (joins : X → X → Bool) (test : Binding X → Bool) (ls ms rs : List (Binding X)) → joined_rows joins test (ls ++ ms) rs ≡ joined_rows joins test ls rs ++ joined_rows joins test ms rs
 joined_append_left joins test ls ms rs = flat_map_append (λ l. flat_map (λ r. only (meet joins l r && test (glue l r)) (glue l r)) rs) ls ms
 
-pub joined_append_right : {X : Type 0} (joins : X → X → Bool) (test : Binding X → Bool) (ls rs ss : List (Binding X)) → SameBag (joined joins test ls (rs ++ ss)) (joined joins test ls rs ++ joined joins test ls ss)
+pub joined_append_right : {X : Type 0} (joins : X → X → Bool) (test : Binding X → Bool) (ls rs ss : List (Binding X)) → SameBag (joined_rows joins test ls (rs ++ ss)) (joined_rows joins test ls rs ++ joined_rows joins test ls ss)
 joined_append_right {X} joins test ls rs ss = bag_trans
     (bag_from_same (joined_pairs joins test ls (rs ++ ss)))
     (bag_trans (bag_flat_map glued_of (pairs_append_right (meet joins) ls rs ss))

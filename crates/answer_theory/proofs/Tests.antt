@@ -3,18 +3,18 @@ use Rattle.std.proofs.Common.{ℕ, Bool, ◌&&◌, List, [], ◌∷◌, All, ref
 use Rattle.std.specs.List.{list_all, AllByRecursion}
 use Rattle.std.proofs.lemmas.List.Elements.{recursion_from_All}
 use Rattle.answer_theory.specs.Bindings.{Binding}
-use Rattle.answer_theory.specs.Solutions.{Reads, ReadsValues}
+use Rattle.answer_theory.specs.Solutions.{ReadsOnly, ReadsValues}
 
-pub reads_values : {X : Type 0} (vs : List ℕ) (test : Binding X → Bool) → Reads vs test → ReadsValues test
+pub reads_values : {X : Type 0} (vs : List ℕ) (test : Binding X → Bool) → ReadsOnly vs test → ReadsValues test
 reads_values vs test h b c e = h b c (λ v i. e v)
 
-pub reads_both : {X : Type 0} (vs : List ℕ) (p q : Binding X → Bool) → Reads vs p → Reads vs q → Reads vs (λ b. p b && q b)
+pub reads_both : {X : Type 0} (vs : List ℕ) (p q : Binding X → Bool) → ReadsOnly vs p → ReadsOnly vs q → ReadsOnly vs (λ b. p b && q b)
 reads_both vs p q h k b c e = ap₂ (λ s t. s && t) (h b c e) (k b c e)
 
-reads_each : {X C : Type 0} (vs : List ℕ) (test : C → Binding X → Bool) → (cs : List C) → AllByRecursion (λ c. Reads vs (test c)) cs → Reads vs (λ b. list_all (λ c. test c b) cs)
+reads_each : {X C : Type 0} (vs : List ℕ) (test : C → Binding X → Bool) → (cs : List C) → AllByRecursion (λ c. ReadsOnly vs (test c)) cs → ReadsOnly vs (λ b. list_all (λ c. test c b) cs)
 reads_each vs test [] all b d e = refl
 reads_each vs test (c ∷ cs) all b d e = ap₂ (λ s t. s && t) (all.0 b d e) (reads_each vs test cs all.1 b d e)
 
 -- all of a list of tests, such as the comparisons that are placed at a node
-pub reads_all : {X C : Type 0} (vs : List ℕ) (test : C → Binding X → Bool) (cs : List C) → All (λ c. Reads vs (test c)) cs → Reads vs (λ b. list_all (λ c. test c b) cs)
+pub reads_all : {X C : Type 0} (vs : List ℕ) (test : C → Binding X → Bool) (cs : List C) → All (λ c. ReadsOnly vs (test c)) cs → ReadsOnly vs (λ b. list_all (λ c. test c b) cs)
 reads_all vs test cs all = reads_each vs test cs (recursion_from_All _ cs all)

@@ -13,8 +13,8 @@ over (v ∷ vs) (x ∷ row) = (v, x) ∷ over vs row
 abbrev pub values : {X : Type 0} → Binding X → List X
 values b = map (λ p. p.1) b
 
-abbrev pub named : {X : Type 0} → Binding X → List ℕ
-named b = map (λ p. p.0) b
+abbrev pub binding_variables : {X : Type 0} → Binding X → List ℕ
+binding_variables b = map (λ p. p.0) b
 
 -- no variable stands twice
 abbrev pub AreDistinct : List ℕ → Type 0
@@ -22,23 +22,23 @@ AreDistinct [] = ⊤
 AreDistinct (v ∷ vs) = (names vs v ≡ false) × AreDistinct vs
 
 -- each variable once, where it stands first
-abbrev pub each_once : List ℕ → List ℕ
-each_once [] = []
-each_once (v ∷ vs) = v ∷ filter (λ w. not (w == v)) (each_once vs)
+abbrev pub first_occurrences : List ℕ → List ℕ
+first_occurrences [] = []
+first_occurrences (v ∷ vs) = v ∷ filter (λ w. not (w == v)) (first_occurrences vs)
 
 -- the left variables, and then those of the right that the left lacks
-abbrev pub glued : List ℕ → List ℕ → List ℕ
-glued us vs = us ++ filter (λ v. not (names us v)) vs
+abbrev pub glued_variables : List ℕ → List ℕ → List ℕ
+glued_variables us vs = us ++ filter (λ v. not (names us v)) vs
 
 -- the values of a right row whose variables the left lacks
-abbrev pub lacked : {X : Type 0} → List ℕ → List ℕ → List X → List X
-lacked us [] row = []
-lacked us (v ∷ vs) [] = []
-lacked us (v ∷ vs) (x ∷ row) = cond (names us v) (lacked us vs row) (x ∷ lacked us vs row)
+abbrev pub lacked_values : {X : Type 0} → List ℕ → List ℕ → List X → List X
+lacked_values us [] row = []
+lacked_values us (v ∷ vs) [] = []
+lacked_values us (v ∷ vs) (x ∷ row) = cond (names us v) (lacked_values us vs row) (x ∷ lacked_values us vs row)
 
 -- the variables of both
-abbrev pub shared : List ℕ → List ℕ → List ℕ
-shared us vs = filter (λ u. names vs u) us
+abbrev pub shared_variables : List ℕ → List ℕ → List ℕ
+shared_variables us vs = filter (λ u. names vs u) us
 
 -- both have a value, and these join
 abbrev pub both_join : {X : Type 0} → (X → X → Bool) → Option X → Option X → Bool

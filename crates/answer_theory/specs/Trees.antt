@@ -1,8 +1,8 @@
 -- Trees of joins over leaves, each node with the test that is placed there.
 use Rattle.std.specs.Prelude.{◌≡◌, ⊤, ℕ, Bool, true, ◌&&◌, List, [], ◌∷◌, ◌++◌, All}
 use Rattle.answer_theory.specs.Bags.{SameBag}
-use Rattle.answer_theory.specs.Bindings.{Binding, firsts}
-use Rattle.answer_theory.specs.Solutions.{chosen, joined, names, Binds, Reads}
+use Rattle.answer_theory.specs.Bindings.{Binding, first_entries}
+use Rattle.answer_theory.specs.Solutions.{chosen_rows, joined_rows, names, Binds, ReadsOnly}
 
 -- A leaf has its variables, its test and its rows. A scan reads the rows of another tree, which stand in a table of that number.
 pub data Tree (X : Type 0) : Type 0 where
@@ -11,10 +11,10 @@ pub data Tree (X : Type 0) : Type 0 where
   Join : (Binding X → Bool) → Tree X → Tree X → Tree X
 
 -- the rows that the tree gives
-abbrev pub given : {X : Type 0} → (X → X → Bool) → (ℕ → List (Binding X)) → Tree X → List (Binding X)
-given joins tables (Leaf vs test rows) = chosen joins test rows
-given joins tables (Scan vs f) = tables f
-given joins tables (Join test l r) = joined joins test (given joins tables l) (given joins tables r)
+abbrev pub given_rows : {X : Type 0} → (X → X → Bool) → (ℕ → List (Binding X)) → Tree X → List (Binding X)
+given_rows joins tables (Leaf vs test rows) = chosen_rows joins test rows
+given_rows joins tables (Scan vs f) = tables f
+given_rows joins tables (Join test l r) = joined_rows joins test (given_rows joins tables l) (given_rows joins tables r)
 
 -- its leaves' rows, from left to right
 abbrev pub leaves : {X : Type 0} → (ℕ → List (Binding X)) → Tree X → List (List (Binding X))
@@ -33,22 +33,22 @@ tests (Leaf vs test rows) b = test b
 tests (Scan vs f) b = true
 tests (Join test l r) b = (tests l b && tests r b) && test b
 
--- a row that binds the variables, each at one place
+-- a row that binds the variables, each at one entry
 pub record IsRowOf {X : Type 0} (vs : List ℕ) (b : Binding X) : Type 0 where
   pub binds : Binds vs b
-  pub once : firsts b ≡ b
+  pub once : first_entries b ≡ b
 
 -- the rows of each leaf bind its variables, and each test is placed at a node that binds what it reads
 abbrev pub IsPlaced : {X : Type 0} → (ℕ → List (Binding X)) → Tree X → Type 0
-IsPlaced tables (Leaf vs test rows) = All (Binds vs) rows × Reads vs test
+IsPlaced tables (Leaf vs test rows) = All (Binds vs) rows × ReadsOnly vs test
 IsPlaced tables (Scan vs f) = All (IsRowOf vs) (tables f)
-IsPlaced tables (Join test l r) = IsPlaced tables l × IsPlaced tables r × Reads (variables l ++ variables r) test
+IsPlaced tables (Join test l r) = IsPlaced tables l × IsPlaced tables r × ReadsOnly (variables l ++ variables r) test
 
 -- the tree in which each scan is replaced by the tree of that number
-abbrev pub expand : {X : Type 0} → (ℕ → Tree X) → Tree X → Tree X
-expand trees (Leaf vs test rows) = Leaf vs test rows
-expand trees (Scan vs f) = trees f
-expand trees (Join test l r) = Join test (expand trees l) (expand trees r)
+abbrev pub expansion : {X : Type 0} → (ℕ → Tree X) → Tree X → Tree X
+expansion trees (Leaf vs test rows) = Leaf vs test rows
+expansion trees (Scan vs f) = trees f
+expansion trees (Join test l r) = Join test (expansion trees l) (expansion trees r)
 
 -- with nothing in any table
 abbrev pub no_tables : {X : Type 0} → ℕ → List (Binding X)
@@ -56,7 +56,7 @@ no_tables f = []
 
 -- The table holds, as a bag, what the tree gives; the tree's tests are placed; and it binds at least these variables.
 pub record Holds {X : Type 0} (joins : X → X → Bool) (vs : List ℕ) (table : List (Binding X)) (tree : Tree X) : Type 0 where
-  pub rows : SameBag table (given joins no_tables tree)
+  pub rows : SameBag table (given_rows joins no_tables tree)
   pub placed : IsPlaced no_tables tree
   pub covers : (v : ℕ) → names vs v ≡ true → names (variables tree) v ≡ true
 

@@ -1,11 +1,11 @@
-//! Bags: lists in which each item counts as often as it stands there, and its place doesn't.
+//! Bags: lists in which each item counts as often as it stands there, and where it stands doesn't count.
 
 ghost use Rattle.std.specs.Prelude.{◌≡◌, ℕ, ◌<◌, Bool, true, List, [], ◌∷◌, ◌++◌, map, filter, flat_map, length, IsPermutation, Contains, All};
 ghost use Rattle.std.specs.List.{list_all, list_any};
 ghost use Rattle.std.specs.List.Sorted.{IsStrictlySortedBy};
 ghost use Rattle.std.specs.Cmp.{IsTotalOrder};
 ghost use Rattle.std.specs.declared.cmp.Ordering.{Ordering};
-ghost use Rattle.answer_theory.specs.Bags.{SameBag, often, numbers_from};
+ghost use Rattle.answer_theory.specs.Bags.{SameBag, count_of, numbers_from};
 
 /// When two lists are one bag.
 pub fn bags_alike<X>()
@@ -54,9 +54,9 @@ pub fn bags_tell<X>()
 
 /// Bags of numbers: they are told apart by how often each number stands there.
 pub fn bags_of_numbers()
-    ensures counted { (ms ns : List ℕ) → ((n : ℕ) → often n ns ≡ often n ms) → SameBag ns ms }
+    ensures counted { (ms ns : List ℕ) → ((n : ℕ) → count_of n ns ≡ count_of n ms) → SameBag ns ms }
     ensures each_once { (count : ℕ) (ns : List ℕ) → All (λ n. n < count) ns
-        → ((n : ℕ) → n < count → often n ns ≡ 1) → SameBag ns (numbers_from 0 count) }
+        → ((n : ℕ) → n < count → count_of n ns ≡ 1) → SameBag ns (numbers_from 0 count) }
 {}
 
 /// Items in a strict order: two lists that have the same items are one list.

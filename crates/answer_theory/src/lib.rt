@@ -14,7 +14,7 @@ mod row_laws;
 mod tree_laws;
 
 pub use bag_laws::{bags_alike, bags_grow, bags_made, bags_of_numbers, bags_tell, one_sorted_list};
-pub use binding_laws::{first_places, glued_values, places_agree};
+pub use binding_laws::{entries_agree, first_entries_kept, glued_values};
 pub use choice_laws::{choices_are_solutions, walks_find_solutions};
 pub use order_laws::{leaves_grow, leaves_reordered, plans_give_solutions};
 pub use pair_laws::{joined_are_pairs, one_pair_more, pairs_grow, pairs_parted};

@@ -3,20 +3,20 @@
 ghost use Rattle.std.specs.Prelude.{◌≡◌, ℕ, Bool, List, ◌∷◌, ◌++◌, map};
 ghost use Rattle.answer_theory.specs.Bags.{SameBag};
 ghost use Rattle.answer_theory.specs.Bindings.{Binding, IsSound};
-ghost use Rattle.answer_theory.specs.Solutions.{solutions, ReadsValues, valuations, heads};
-ghost use Rattle.answer_theory.specs.Trees.{Tree, given, leaves, tests, IsPlaced, expand, no_tables, ScansHold};
+ghost use Rattle.answer_theory.specs.Solutions.{solutions, ReadsValues, valuations, keys};
+ghost use Rattle.answer_theory.specs.Trees.{Tree, given_rows, leaves, tests, IsPlaced, expansion, no_tables, ScansHold};
 
-/// Leaves of the same numbers in another order: the same values of each variable, and the same heads,
+/// Leaves of the same numbers in another order: the same values of each variable, and the same keys,
 /// each as often.
 pub fn leaves_reordered<X>()
     ensures values { (joins : X → X → Bool) → IsSound joins → (test : Binding X → Bool) → ReadsValues test
         → (leaf : ℕ → List (Binding X)) (ks js : List ℕ) → SameBag ks js
         → SameBag (valuations (solutions joins test (map leaf ks)))
         (valuations (solutions joins test (map leaf js))) }
-    ensures heads { (joins : X → X → Bool) → IsSound joins → (test : Binding X → Bool) → ReadsValues test
+    ensures keys { (joins : X → X → Bool) → IsSound joins → (test : Binding X → Bool) → ReadsValues test
         → (leaf : ℕ → List (Binding X)) (ks js : List ℕ) → SameBag ks js → (vs : List ℕ)
-        → SameBag (heads vs (solutions joins test (map leaf ks)))
-        (heads vs (solutions joins test (map leaf js))) }
+        → SameBag (keys vs (solutions joins test (map leaf ks)))
+        (keys vs (solutions joins test (map leaf js))) }
 {}
 
 /// What the last tree of a plan gives are the solutions over all atoms, in whatever order its leaves
@@ -25,10 +25,10 @@ pub fn plans_give_solutions<X>()
     ensures { (joins : X → X → Bool) → IsSound joins
         → (tables : ℕ → List (Binding X)) (trees : ℕ → Tree X) (tree : Tree X) → IsPlaced tables tree
         → ScansHold joins tables trees tree → (test : Binding X → Bool) → ReadsValues test
-        → ((b : Binding X) → tests (expand trees tree) b ≡ test b)
+        → ((b : Binding X) → tests (expansion trees tree) b ≡ test b)
         → (leaf : ℕ → List (Binding X)) (ks js : List ℕ)
-        → leaves no_tables (expand trees tree) ≡ map leaf ks → SameBag ks js
-        → SameBag (valuations (given joins tables tree)) (valuations (solutions joins test (map leaf js))) }
+        → leaves no_tables (expansion trees tree) ≡ map leaf ks → SameBag ks js
+        → SameBag (valuations (given_rows joins tables tree)) (valuations (solutions joins test (map leaf js))) }
 {}
 
 /// A leaf that grows, and a leaf of the same rows in another order.

@@ -3,7 +3,7 @@
 ghost use Rattle.std.specs.Prelude.{◌≡◌, Bool, false, not, ◌&&◌, ◌||◌, List, [], ◌∷◌, ◌++◌, filter, flat_map};
 ghost use Rattle.answer_theory.specs.Bags.{SameBag};
 ghost use Rattle.answer_theory.specs.Bindings.{Binding, meet, glue};
-ghost use Rattle.answer_theory.specs.Solutions.{only, joined};
+ghost use Rattle.answer_theory.specs.Solutions.{only, joined_rows};
 ghost use Rattle.answer_theory.specs.Pairs.{pairs, AlikeOn};
 
 /// The pairs of a test, parted by another test; what another test adds; and tests that answer alike.
@@ -44,12 +44,12 @@ pub fn pairs_grow<L, R>()
 /// give more of them.
 pub fn joined_are_pairs<X>()
     ensures glued { (joins : X → X → Bool) (test : Binding X → Bool) (ls rs : List (Binding X))
-        → joined joins test ls rs
+        → joined_rows joins test ls rs
         ≡ flat_map (λ p. only (test (glue p.0 p.1)) (glue p.0 p.1)) (pairs (meet joins) ls rs) }
     ensures left { (joins : X → X → Bool) (test : Binding X → Bool) (ls ms rs : List (Binding X))
-        → joined joins test (ls ++ ms) rs ≡ joined joins test ls rs ++ joined joins test ms rs }
+        → joined_rows joins test (ls ++ ms) rs ≡ joined_rows joins test ls rs ++ joined_rows joins test ms rs }
     ensures right { (joins : X → X → Bool) (test : Binding X → Bool) (ls rs ss : List (Binding X))
-        → SameBag (joined joins test ls (rs ++ ss)) (joined joins test ls rs ++ joined joins test ls ss) }
+        → SameBag (joined_rows joins test ls (rs ++ ss)) (joined_rows joins test ls rs ++ joined_rows joins test ls ss) }
     ensures bags { (joins : X → X → Bool) (test : Binding X → Bool) (ls ms rs ss : List (Binding X))
-        → SameBag ls ms → SameBag rs ss → SameBag (joined joins test ls rs) (joined joins test ms ss) }
+        → SameBag ls ms → SameBag rs ss → SameBag (joined_rows joins test ls rs) (joined_rows joins test ms ss) }
 {}

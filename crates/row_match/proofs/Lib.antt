@@ -1,4 +1,4 @@
-pub mod Places
+pub mod Positions
 pub mod Repeats
 pub mod Walks
 pub mod Preparing

@@ -2,7 +2,7 @@
 use Rattle.std.proofs.Common.{◌≡◌, ℕ, true, ◌&&◌, ◌||◌, ◌==◌, List, [], ◌∷◌, ◌++◌, refl, ap, ap₂, ◌∙◌}
 use Rattle.std.proofs.lemmas.Bool.{or_right}
 use Rattle.answer_theory.specs.Bindings.{Binding, value_of}
-use Rattle.answer_theory.specs.Solutions.{names, Reads}
+use Rattle.answer_theory.specs.Solutions.{names, ReadsOnly}
 use Rattle.answer_theory.proofs.Bools.{nat_eq_self}
 use Rattle.answer_theory.proofs.Lists.{any_append}
 use Rattle.tuple_core.specs.declared.value.Value.{Value}
@@ -33,7 +33,7 @@ more_alike (term.Variable u) more b c h = alike_right (u ∷ []) (term_variables
 holds_alike : (k : Comparison) (b c : Binding Value) → AreAlike (term_variables (k.left ∷ k.right ∷ [])) b c → holds_in k b ≡ holds_in k c
 holds_alike k b c h = ap₂ (λ x y. both_compare k.op x y) (side_alike k.left (k.right ∷ []) b c h) (side_alike k.right [] b c (more_alike k.left (k.right ∷ []) b c h))
 
-pub reads_comparisons : (cs : List Comparison) → Reads (comparison_variables cs) (all_hold cs)
+pub reads_comparisons : (cs : List Comparison) → ReadsOnly (comparison_variables cs) (all_hold cs)
 reads_comparisons [] b c h = refl
 reads_comparisons (k ∷ cs) b c h = ap₂ (λ s t. s && t)
     (holds_alike k b c (alike_left (term_variables (k.left ∷ k.right ∷ [])) (comparison_variables cs) b c h))

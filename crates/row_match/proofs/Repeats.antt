@@ -3,34 +3,34 @@ use Rattle.std.proofs.Common.{◌≡◌, ℕ, Bool, true, false, cond, ◌&&◌,
 use Rattle.std.specs.List.{list_all}
 use Rattle.std.specs.Option.{is_some}
 use Rattle.std.proofs.lemmas.Bool.{eqb-true, false≢true, and_parts}
-use Rattle.answer_theory.specs.Bindings.{Binding, IsSound, agree, meet, consistent, bound, value_of, firsts}
+use Rattle.answer_theory.specs.Bindings.{Binding, IsSound, agree, meet, consistent, has_entry, value_of, first_entries}
 use Rattle.answer_theory.specs.Solutions.{names}
 use Rattle.answer_theory.specs.Rows.{over, AreDistinct, both_join}
-use Rattle.answer_theory.proofs.Bindings.{firsts_append, bound_firsts, consistent_append, meet_sym}
+use Rattle.answer_theory.proofs.Bindings.{first_entries_append, bound_first_entries, consistent_append, meet_sym}
 use Rattle.answer_theory.proofs.Bools.{and_true, and_false, nat_eq_self}
 use Rattle.answer_theory.proofs.Lists.{filter_alike, filter_filter}
 use Rattle.answer_theory.proofs.Rows.{over_meet}
 
 -- ---- it adds nothing
 
-pub firsts_again : {X : Type 0} (bs : Binding X) (v : ℕ) (x : X) (cs : Binding X) → bound bs v ≡ true → firsts (bs ++ (v, x) ∷ cs) ≡ firsts (bs ++ cs)
-firsts_again {X} bs v x cs e =
-    firsts_append bs ((v, x) ∷ cs)
-    ∙ ap (λ t. firsts bs ++ cond (not t) ((v, x) ∷ rest) rest) has
-    ∙ ap (λ l. firsts bs ++ l) (filter_filter (λ c. not (bound (firsts bs) c.0)) (λ c. not (c.0 == v)) (firsts cs) ∙ filter_alike _ _ alike (firsts cs))
-    ∙ sym (firsts_append bs cs)
+pub first_entries_again : {X : Type 0} (bs : Binding X) (v : ℕ) (x : X) (cs : Binding X) → has_entry bs v ≡ true → first_entries (bs ++ (v, x) ∷ cs) ≡ first_entries (bs ++ cs)
+first_entries_again {X} bs v x cs e =
+    first_entries_append bs ((v, x) ∷ cs)
+    ∙ ap (λ t. first_entries bs ++ cond (not t) ((v, x) ∷ rest) rest) has
+    ∙ ap (λ l. first_entries bs ++ l) (filter_filter (λ c. not (has_entry (first_entries bs) c.0)) (λ c. not (c.0 == v)) (first_entries cs) ∙ filter_alike _ _ alike (first_entries cs))
+    ∙ sym (first_entries_append bs cs)
   where
     rest : Binding X
-    rest = filter (λ c. not (bound (firsts bs) c.0)) (filter (λ c. not (c.0 == v)) (firsts cs))
+    rest = filter (λ c. not (has_entry (first_entries bs) c.0)) (filter (λ c. not (c.0 == v)) (first_entries cs))
 
-    has : bound (firsts bs) v ≡ true
-    has = bound_firsts bs v ∙ e
+    has : has_entry (first_entries bs) v ≡ true
+    has = bound_first_entries bs v ∙ e
 
-    differs : (w : ℕ) (t : Bool) → (w == v) ≡ t → (not t && not (bound (firsts bs) w)) ≡ not (bound (firsts bs) w)
-    differs w true i = sym (ap (λ u. not (bound (firsts bs) u)) (eqb-true w v i) ∙ ap not has)
+    differs : (w : ℕ) (t : Bool) → (w == v) ≡ t → (not t && not (has_entry (first_entries bs) w)) ≡ not (has_entry (first_entries bs) w)
+    differs w true i = sym (ap (λ u. not (has_entry (first_entries bs) u)) (eqb-true w v i) ∙ ap not has)
     differs w false i = refl
 
-    alike : (c : ℕ × X) → (not (c.0 == v) && not (bound (firsts bs) c.0)) ≡ not (bound (firsts bs) c.0)
+    alike : (c : ℕ × X) → (not (c.0 == v) && not (has_entry (first_entries bs) c.0)) ≡ not (has_entry (first_entries bs) c.0)
     alike c = differs c.0 (c.0 == v) refl
 
 -- ---- it must agree
@@ -39,7 +39,7 @@ found_same : {X : Type 0} (joins : X → X → Bool) → IsSound joins → (x : 
 found_same joins s x None e = absurd (false≢true e)
 found_same joins s x (Some y) e = ap Some (sym (s x y e))
 
--- the one place of the variable stands for it against further places
+-- the one entry of the variable stands for it against further entries
 met_one : {X : Type 0} (joins : X → X → Bool) (v : ℕ) (x : X) (bs cs : Binding X) → value_of bs v ≡ Some x → meet joins bs cs ≡ true → list_all (agree joins (v, x)) cs ≡ true
 met_one joins v x [] cs e m = absurd (false≢true (ap is_some e))
 met_one {X} joins v x (b ∷ bs) cs e m = go (b.0 == v) refl e (and_parts (list_all (agree joins b) cs) (meet joins bs cs) m) (met_one joins v x bs cs)
@@ -52,7 +52,7 @@ met_one {X} joins v x (b ∷ bs) cs e m = go (b.0 == v) refl e (and_parts (list_
     go true i h p ih = ap₂ (λ w y. list_all (agree {X = X} joins (w, y)) cs) (sym (eqb-true b.0 v i)) (sym (same h)) ∙ p.0
     go false i h p ih = ih h p.1
 
--- one place meets a row by the variable's value in it
+-- one entry meets a row by the variable's value in it
 one_meets : {X : Type 0} (joins : X → X → Bool) (us : List ℕ) (row : List X) (v : ℕ) (x : X) → AreDistinct us → length row ≡ length us → names us v ≡ true
     → list_all (agree joins (v, x)) (over us row) ≡ both_join joins (Some x) (value_of (over us row) v)
 one_meets {X} joins us row v x d e n =

@@ -4,18 +4,18 @@ use Rattle.std.specs.List.{cons_option, filter_map, list_all, AllByRecursion}
 use Rattle.std.specs.Option.{is_some, IfSome}
 use Rattle.std.proofs.lemmas.Bool.{false≢true, and_parts, and_from, or_right}
 use Rattle.std.proofs.lemmas.List.{length-map}
-use Rattle.answer_theory.specs.Bindings.{Binding, bound, consistent, meet, value_of, firsts}
+use Rattle.answer_theory.specs.Bindings.{Binding, has_entry, consistent, meet, value_of, first_entries}
 use Rattle.answer_theory.specs.Solutions.{names, key}
-use Rattle.answer_theory.specs.Rows.{over, values, named, AreDistinct, each_once, shared, both_join}
+use Rattle.answer_theory.specs.Rows.{over, values, binding_variables, AreDistinct, first_occurrences, shared_variables, both_join}
 use Rattle.answer_theory.proofs.Bools.{nat_eq_self}
 use Rattle.answer_theory.proofs.Lists.{all_kept, all_filter}
-use Rattle.answer_theory.proofs.Rows.{over_named, named_firsts, over_bound, met_keys, keys_meet}
+use Rattle.answer_theory.proofs.Rows.{over_named, named_first_entries, over_bound, met_keys, keys_meet}
 use Rattle.tuple_core.proofs.Back.{row_one}
 use Rattle.tuple_core.specs.Encoding.{row_encoding}
 use Rattle.tuple_core.specs.Order.{value_itself, values_same}
 use Rattle.tuple_core.specs.Values.{FitsRow, FitsValue}
 use Rattle.tuple_core.specs.declared.value.Value.{Value}
-use Rattle.row_match.specs.Patterns.{fits, matched, places_of, pattern_variables, term_variables, values_join}
+use Rattle.row_match.specs.Patterns.{fits, matched_row, entries_of, pattern_variables, term_variables, values_join}
 use Rattle.row_match.specs.Shapes.{Shape, key_row}
 use Rattle.row_match.specs.declared.pattern.Term.{Term}
 use Rattle.row_match.specs.declared.pattern.Term.TheVariants as term
@@ -24,27 +24,27 @@ use Rattle.row_match.proofs.Keys.{fewer_kept}
 
 -- ---- matched rows
 
-places_named : (ts : List Term) (row : List Value) → length row ≡ length ts → named (places_of ts row) ≡ term_variables ts
-places_named [] row e = refl
-places_named (t ∷ ts) [] e = absurd (let d : 0 ≡ suc (length ts) = e in omega (arith, d))
-places_named (term.Constant c ∷ ts) (x ∷ row) e = places_named ts row (let d : suc (length row) ≡ suc (length ts) = e in omega (arith, d))
-places_named (term.Variable v ∷ ts) (x ∷ row) e = ap (λ l. v ∷ l) (places_named ts row (let d : suc (length row) ≡ suc (length ts) = e in omega (arith, d)))
+entries_named : (ts : List Term) (row : List Value) → length row ≡ length ts → binding_variables (entries_of ts row) ≡ term_variables ts
+entries_named [] row e = refl
+entries_named (t ∷ ts) [] e = absurd (let d : 0 ≡ suc (length ts) = e in omega (arith, d))
+entries_named (term.Constant c ∷ ts) (x ∷ row) e = entries_named ts row (let d : suc (length row) ≡ suc (length ts) = e in omega (arith, d))
+entries_named (term.Variable v ∷ ts) (x ∷ row) e = ap (λ l. v ∷ l) (entries_named ts row (let d : suc (length row) ≡ suc (length ts) = e in omega (arith, d)))
 
 where_some : (t : Bool) (out r : List Value) → cond t (Some out) None ≡ Some r → out ≡ r
 where_some true out r e = cc e
 where_some false out r e = absurd (false≢true (ap is_some e))
 
-pub matched_binds : (ts : List Term) (row r : List Value) → length row ≡ length ts → matched ts row ≡ Some r → over (pattern_variables ts) r ≡ firsts (places_of ts row)
+pub matched_binds : (ts : List Term) (row r : List Value) → length row ≡ length ts → matched_row ts row ≡ Some r → over (pattern_variables ts) r ≡ first_entries (entries_of ts row)
 matched_binds ts row r e m =
-    ap₂ over (ap each_once (sym (places_named ts row e)) ∙ sym (named_firsts (places_of ts row))) (sym (where_some (fits ts row && consistent values_join (places_of ts row)) (values (firsts (places_of ts row))) r m))
-    ∙ over_named (firsts (places_of ts row))
+    ap₂ over (ap first_occurrences (sym (entries_named ts row e)) ∙ sym (named_first_entries (entries_of ts row))) (sym (where_some (fits ts row && consistent values_join (entries_of ts row)) (values (first_entries (entries_of ts row))) r m))
+    ∙ over_named (first_entries (entries_of ts row))
 
-pub matched_width : (ts : List Term) (row r : List Value) → length row ≡ length ts → matched ts row ≡ Some r → length r ≡ length (pattern_variables ts)
+pub matched_width : (ts : List Term) (row r : List Value) → length row ≡ length ts → matched_row ts row ≡ Some r → length r ≡ length (pattern_variables ts)
 matched_width ts row r e m =
-    let kept : Binding Value = firsts (places_of ts row) in
-    ap length (sym (where_some (fits ts row && consistent values_join (places_of ts row)) (values kept) r m))
+    let kept : Binding Value = first_entries (entries_of ts row) in
+    ap length (sym (where_some (fits ts row && consistent values_join (entries_of ts row)) (values kept) r m))
     ∙ length-map kept (λ p. p.1) ∙ sym (length-map kept (λ p. p.0))
-    ∙ ap length (named_firsts (places_of ts row) ∙ ap each_once (places_named ts row e))
+    ∙ ap length (named_first_entries (entries_of ts row) ∙ ap first_occurrences (entries_named ts row e))
 
 -- ---- keys
 
@@ -55,15 +55,15 @@ as_key b (w ∷ ws) = ap (cons_option (value_of b w)) (as_key b ws)
 pub met_alike : (s : Shape) (l r : List Value) → AreDistinct s.left → AreDistinct s.right → length l ≡ length s.left → length r ≡ length s.right
     → meet values_join (over s.left l) (over s.right r) ≡ true → row_encoding (key_row side.Left s l) ≡ row_encoding (key_row side.Right s r)
 met_alike s l r hu hv el er m = ap row_encoding (
-    as_key (over s.left l) (shared s.left s.right)
+    as_key (over s.left l) (shared_variables s.left s.right)
     ∙ ap (filter_map (λ o. o)) (met_keys values_join values_same s.left s.right l r hu hv el er m)
-    ∙ sym (as_key (over s.right r) (shared s.left s.right)))
+    ∙ sym (as_key (over s.right r) (shared_variables s.left s.right)))
 
-has_value : (bs : Binding Value) (v : ℕ) → is_some (value_of bs v) ≡ bound bs v
+has_value : (bs : Binding Value) (v : ℕ) → is_some (value_of bs v) ≡ has_entry bs v
 has_value [] v = refl
 has_value (b ∷ bs) v = go (b.0 == v) (has_value bs v)
   where
-    go : (t : Bool) → is_some (value_of bs v) ≡ bound bs v → is_some (cond t (Some b.1) (value_of bs v)) ≡ (t || bound bs v)
+    go : (t : Bool) → is_some (value_of bs v) ≡ has_entry bs v → is_some (cond t (Some b.1) (value_of bs v)) ≡ (t || has_entry bs v)
     go true h = refl
     go false h = h
 
@@ -136,7 +136,7 @@ key_fits us row ws l f = record {
 pub alike_meet : (s : Shape) (l r : List Value) → AreDistinct s.left → AreDistinct s.right → length l ≡ length s.left → length r ≡ length s.right → FitsRow l → FitsRow r
     → row_encoding (key_row side.Left s l) ≡ row_encoding (key_row side.Right s r) → meet values_join (over s.left l) (over s.right r) ≡ true
 alike_meet s l r hu hv el er fl fr e =
-    let ws = shared s.left s.right in
+    let ws = shared_variables s.left s.right in
     let short : length ws ≤ 64 = (let a = fewer_kept (λ u. names s.right u) s.left in let b = fl.short in omega (arith, a, b, el)) in
     let left = all_have s.left l ws el (all_filter (names s.left) (λ u. names s.right u) s.left (names_itself s.left)) in
     let right = all_have s.right r ws er (all_kept (names s.right) (λ u. names s.right u) (λ u h. h) s.left) in

@@ -1,8 +1,8 @@
 -- What a row binds of an atom's variables.
 use Rattle.std.specs.Prelude.{ℕ, ◌≤◌, Bool, true, cond, ◌==◌, ◌&&◌, List, [], ◌∷◌, length, Option, Some, None}
 use Rattle.std.specs.List.{position}
-use Rattle.answer_theory.specs.Bindings.{Binding, consistent, firsts}
-use Rattle.answer_theory.specs.Rows.{values, each_once, AreDistinct}
+use Rattle.answer_theory.specs.Bindings.{Binding, consistent, first_entries}
+use Rattle.answer_theory.specs.Rows.{values, first_occurrences, AreDistinct}
 use Rattle.tuple_core.specs.Order.{value_eq}
 use Rattle.tuple_core.specs.declared.value.Value.{Value}
 use Rattle.row_match.specs.declared.pattern.Term.{Term}
@@ -14,8 +14,8 @@ pub record FitsVars (vs : List ℕ) : Type 0 where
   pub short : length vs ≤ 64
 
 -- where the variable stands
-abbrev pub place_of : List ℕ → ℕ → Option ℕ
-place_of us v = position (λ u. u == v) us
+abbrev pub position_of : List ℕ → ℕ → Option ℕ
+position_of us v = position (λ u. u == v) us
 
 -- two values join where they are equal
 abbrev pub values_join : Value → Value → Bool
@@ -29,11 +29,11 @@ fits (term.Constant c ∷ ts) (x ∷ row) = values_join x c && fits ts row
 fits (term.Variable v ∷ ts) (x ∷ row) = fits ts row
 
 -- each variable with its column's value
-abbrev pub places_of : List Term → List Value → Binding Value
-places_of [] row = []
-places_of (t ∷ ts) [] = []
-places_of (term.Constant c ∷ ts) (x ∷ row) = places_of ts row
-places_of (term.Variable v ∷ ts) (x ∷ row) = (v, x) ∷ places_of ts row
+abbrev pub entries_of : List Term → List Value → Binding Value
+entries_of [] row = []
+entries_of (t ∷ ts) [] = []
+entries_of (term.Constant c ∷ ts) (x ∷ row) = entries_of ts row
+entries_of (term.Variable v ∷ ts) (x ∷ row) = (v, x) ∷ entries_of ts row
 
 abbrev pub term_variables : List Term → List ℕ
 term_variables [] = []
@@ -42,8 +42,8 @@ term_variables (term.Variable v ∷ ts) = v ∷ term_variables ts
 
 -- the variables in the order of their first occurrence
 abbrev pub pattern_variables : List Term → List ℕ
-pattern_variables terms = each_once (term_variables terms)
+pattern_variables terms = first_occurrences (term_variables terms)
 
--- The values of the variables, where each constant fits and each two places of one variable agree.
-abbrev pub matched : List Term → List Value → Option (List Value)
-matched terms row = cond (fits terms row && consistent values_join (places_of terms row)) (Some (values (firsts (places_of terms row)))) None
+-- The values of the variables, where each constant fits and each two entries of one variable agree.
+abbrev pub matched_row : List Term → List Value → Option (List Value)
+matched_row terms row = cond (fits terms row && consistent values_join (entries_of terms row)) (Some (values (first_entries (entries_of terms row)))) None

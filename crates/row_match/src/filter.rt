@@ -7,7 +7,7 @@ ghost use Rattle.answer_theory.specs.Rows.{over};
 ghost use Rattle.row_match.specs.Filters.{side_value, holds_in, all_hold};
 
 use crate::pattern::Term;
-use crate::vars::{Vars, place_of, value_at};
+use crate::vars::{Vars, position_of, value_at};
 use std::marker::Model;
 use tuple_core::{Op, Row, Value, compare};
 
@@ -39,8 +39,8 @@ fn value_of<'a>(variable: u32, vars: &[u32], row: &'a [Value]) -> Option<&'a Val
     requires { length row.now ≡ length vars.now }
     ensures { option_map (λ v. v.now) result ≡ value_of (over vars.now row.now) variable }
 {
-    match place_of(vars, variable) {
-        Some(place) => value_at(row, place),
+    match position_of(vars, variable) {
+        Some(position) => value_at(row, position),
         None => None,
     }
 }

@@ -1,30 +1,30 @@
 //! The laws of matched rows, of filters and of keys, for callers' proofs.
 
 ghost use Rattle.std.specs.Prelude.{◌≡◌, List, Some, true, length};
-ghost use Rattle.answer_theory.specs.Bindings.{firsts, meet};
+ghost use Rattle.answer_theory.specs.Bindings.{first_entries, meet};
 ghost use Rattle.answer_theory.specs.Rows.{over, AreDistinct};
-ghost use Rattle.answer_theory.specs.Solutions.{Reads};
+ghost use Rattle.answer_theory.specs.Solutions.{ReadsOnly};
 ghost use Rattle.tuple_core.specs.Encoding.{row_encoding};
 ghost use Rattle.tuple_core.specs.Values.{FitsRow};
 ghost use Rattle.tuple_core.specs.declared.value.Value.{Value as AValue};
 ghost use Rattle.row_match.specs.Filters.{all_hold, comparison_variables};
-ghost use Rattle.row_match.specs.Patterns.{matched, places_of, pattern_variables, values_join};
+ghost use Rattle.row_match.specs.Patterns.{matched_row, entries_of, pattern_variables, values_join};
 ghost use Rattle.row_match.specs.Shapes.{Shape, key_row};
 ghost use Rattle.row_match.specs.declared.filter.Comparison.{Comparison as AComparison};
 ghost use Rattle.row_match.specs.declared.pattern.Term.{Term as ATerm};
 ghost use Rattle.row_match.specs.declared.shape.Side.TheVariants as side;
 
-/// A matched row binds the first places of the atom's variables, and has a value for each of them.
+/// A matched row binds the first entries of the atom's variables, and has a value for each of them.
 pub fn matched_rows_bind()
-    ensures places { (terms : List ATerm) (row r : List AValue) → length row ≡ length terms → matched terms row ≡ Some r
-        → over (pattern_variables terms) r ≡ firsts (places_of terms row) }
-    ensures width { (terms : List ATerm) (row r : List AValue) → length row ≡ length terms → matched terms row ≡ Some r
+    ensures entries { (terms : List ATerm) (row r : List AValue) → length row ≡ length terms → matched_row terms row ≡ Some r
+        → over (pattern_variables terms) r ≡ first_entries (entries_of terms row) }
+    ensures width { (terms : List ATerm) (row r : List AValue) → length row ≡ length terms → matched_row terms row ≡ Some r
         → length r ≡ length (pattern_variables terms) }
 {}
 
 /// A filter reads the variables of its comparisons alone.
 pub fn filters_read()
-    ensures { (comparisons : List AComparison) → Reads (comparison_variables comparisons) (all_hold comparisons) }
+    ensures { (comparisons : List AComparison) → ReadsOnly (comparison_variables comparisons) (all_hold comparisons) }
 {}
 
 /// Rows have equal keys exactly where they meet.

@@ -2,18 +2,18 @@
 
 ghost use Rattle.std.specs.Prelude.{◌≡◌, ◌≤◌, length, Some, None, slice_get, IfOk, if◌then◌else◌};
 ghost use Rattle.answer_theory.specs.Rows.{both_join};
-ghost use Rattle.row_match.specs.Patterns.{matched, values_join};
-ghost use Rattle.row_match.specs.Prepared.{taken};
+ghost use Rattle.row_match.specs.Patterns.{matched_row, values_join};
+ghost use Rattle.row_match.specs.Prepared.{kept_after};
 
 use crate::copying::copy_of;
 use crate::pattern::{ColumnTerm, Pattern, Term};
 use std::alloc::{AllocError, Global};
 use tuple_core::{Row, Value};
 
-fn is_at(values: &[Value], place: usize, value: &Value) -> bool
-    ensures { result ≡ both_join values_join (Some value.now) (slice_get values.now place) }
+fn is_at(values: &[Value], position: usize, value: &Value) -> bool
+    ensures { result ≡ both_join values_join (Some value.now) (slice_get values.now position) }
 {
-    match values.get(place) {
+    match values.get(position) {
         Some(kept) => *value == *kept,
         None => false,
     }
@@ -26,11 +26,11 @@ fn agrees(
     value: &Value,
     values: &mut Vec<Value>,
 ) -> Result<bool, AllocError>
-    ensures { IfOk result (λ agrees. (if agrees then Some values.new.items else None) ≡ taken column.now value.now values.old.items) }
+    ensures { IfOk result (λ agrees. (if agrees then Some values.new.items else None) ≡ kept_after column.now value.now values.old.items) }
 {
-    match (&column.term, column.place) {
+    match (&column.term, column.position) {
         (Term::Constant(constant), _) => Ok(*value == *constant),
-        (Term::Variable(_), Some(place)) => Ok(is_at(values.as_slice(), place, value)),
+        (Term::Variable(_), Some(position)) => Ok(is_at(values.as_slice(), position, value)),
         (Term::Variable(_), None) => {
             values.push(copy_of(alloc, value)?)?;
             Ok(true)
@@ -43,11 +43,11 @@ impl Pattern {
     /// variable disagrees.
     pub fn match_row(&self, alloc: Global, row: &Row) -> Result<Option<Row>, AllocError>
         requires width { length row.now ≡ length self.now }
-        ensures matched { IfOk result (λ m. m ≡ matched self.now row.now) }
+        ensures matched { IfOk result (λ m. m ≡ matched_row self.now row.now) }
     {
         let mut values = Vec::new(alloc);
-        'columns: for (place, value) in row.values().iter().enumerate() {
-            if !agrees(alloc, &self.columns[place], value, &mut values)? {
+        'columns: for (position, value) in row.values().iter().enumerate() {
+            if !agrees(alloc, &self.columns[position], value, &mut values)? {
                 return Ok(None);
             }
         }

@@ -2,9 +2,9 @@
 
 ghost use Rattle.std.specs.Prelude.{◌≡◌, ◌≤◌, map, length, IfOk, OnOk};
 ghost use Rattle.row_match.specs.Patterns.{pattern_variables};
-ghost use Rattle.row_match.specs.Prepared.{place_for, named_after};
+ghost use Rattle.row_match.specs.Prepared.{position_for, variables_with_term};
 
-use crate::vars::{Vars, place_of};
+use crate::vars::{Vars, position_of};
 use std::alloc::{AllocError, Global};
 use std::marker::Model;
 use tuple_core::Value;
@@ -17,11 +17,11 @@ pub enum Term {
     Variable(u32),
 }
 
-// A column's term, and the place among the row's kept values of a variable that stood before.
+// A column's term, and the position among the row's kept values of a variable that stood before.
 #[derive(Debug, Drop)]
 pub(crate) struct ColumnTerm {
     pub(crate) term: Term,
-    pub(crate) place: Option<usize>,
+    pub(crate) position: Option<usize>,
 }
 
 /// An atom's list of constants and variables, one for each column. It is made once for an atom, and then
@@ -44,19 +44,19 @@ impl Model for Pattern {
     ghost invariant = { λ p. IsPrepared p.columns.items p.variables };
 }
 
-// The place of the term's variable, which is put at the end of the variables where it is new.
-fn place_for(variables: &mut Vec<u32>, term: &Term) -> Result<Option<usize>, AllocError>
-    ensures place { IfOk result (λ place. place ≡ place_for variables.old.items term.now) }
-    ensures named { OnOk result (variables.new.items ≡ named_after variables.old.items term.now) }
+// The position of the term's variable, which is put at the end of the variables where it is new.
+fn position_for(variables: &mut Vec<u32>, term: &Term) -> Result<Option<usize>, AllocError>
+    ensures position { IfOk result (λ position. position ≡ position_for variables.old.items term.now) }
+    ensures named { OnOk result (variables.new.items ≡ variables_with_term variables.old.items term.now) }
 {
     let Term::Variable(variable) = term else {
         return Ok(None);
     };
-    let place = place_of(variables.as_slice(), *variable);
-    if place.is_none() {
+    let position = position_of(variables.as_slice(), *variable);
+    if position.is_none() {
         variables.push(*variable)?;
     }
-    Ok(place)
+    Ok(position)
 }
 
 impl Pattern {
@@ -67,8 +67,8 @@ impl Pattern {
         let mut variables = Vec::new(alloc);
         let mut columns = Vec::new(alloc);
         'terms: for term in terms {
-            let place = place_for(&mut variables, &term)?;
-            columns.push(ColumnTerm { term, place })?;
+            let position = position_for(&mut variables, &term)?;
+            columns.push(ColumnTerm { term, position })?;
         }
         Ok(Pattern {
             columns,

@@ -3,13 +3,13 @@
 ghost use Rattle.std.specs.Prelude.{◌≡◌, ◌≤◌, ◌++◌, [], length, slice_get, IfOk, OnOk};
 ghost use Rattle.std.specs.List.{cons_option, filter_map};
 ghost use Rattle.answer_theory.specs.Bindings.{glue};
-ghost use Rattle.answer_theory.specs.Rows.{over, glued, lacked, shared};
+ghost use Rattle.answer_theory.specs.Rows.{over, glued_variables, lacked_values, shared_variables};
 ghost use Rattle.answer_theory.specs.Solutions.{names};
 ghost use Rattle.tuple_core.specs.Encoding.{row_encoding};
-ghost use Rattle.row_match.specs.Shapes.{key_places, key_row, lacking, places_in, vars_of};
+ghost use Rattle.row_match.specs.Shapes.{key_positions, key_row, lacking_variables, positions_in, vars_of};
 
 use crate::copying::copy_of;
-use crate::vars::{Vars, place_of, value_at};
+use crate::vars::{Vars, position_of, value_at};
 use std::alloc::{AllocError, Global};
 use std::marker::Model;
 use tuple_core::{KeyRoom, Row, Value};
@@ -42,7 +42,7 @@ impl Model for JoinShape {
     ghost invariant = { λ s. IsShaped s.left.items s.right.items s.left_key.items s.right_key.items s.lacked.items s.variables };
 }
 
-fn named(variables: &[u32], variable: u32) -> bool
+fn names(variables: &[u32], variable: u32) -> bool
     ensures { result ≡ names variables.now variable }
 {
     variables.iter().any(|v| *v == variable)
@@ -56,12 +56,12 @@ fn copied(alloc: Global, variables: &[u32]) -> Result<Vec<u32>, AllocError>
     Ok(copy)
 }
 
-fn shared(alloc: Global, left: &[u32], right: &[u32]) -> Result<Vec<u32>, AllocError>
-    ensures { IfOk result (λ chosen. chosen.items ≡ shared left.now right.now) }
+fn shared_variables(alloc: Global, left: &[u32], right: &[u32]) -> Result<Vec<u32>, AllocError>
+    ensures { IfOk result (λ chosen. chosen.items ≡ shared_variables left.now right.now) }
 {
     let mut chosen = Vec::new(alloc);
     for variable in left {
-        if named(right, *variable) {
+        if names(right, *variable) {
             chosen.push(*variable)?;
         }
     }
@@ -69,64 +69,64 @@ fn shared(alloc: Global, left: &[u32], right: &[u32]) -> Result<Vec<u32>, AllocE
 }
 
 // The right variables that the left lacks.
-fn lacking(alloc: Global, left: &[u32], right: &[u32]) -> Result<Vec<u32>, AllocError>
-    ensures { IfOk result (λ chosen. chosen.items ≡ lacking left.now right.now) }
+fn lacking_variables(alloc: Global, left: &[u32], right: &[u32]) -> Result<Vec<u32>, AllocError>
+    ensures { IfOk result (λ chosen. chosen.items ≡ lacking_variables left.now right.now) }
 {
     let mut chosen = Vec::new(alloc);
     for variable in right {
-        if !named(left, *variable) {
+        if !names(left, *variable) {
             chosen.push(*variable)?;
         }
     }
     Ok(chosen)
 }
 
-fn push_some(places: &mut Vec<usize>, place: Option<usize>) -> Result<(), AllocError>
-    ensures { OnOk result (places.new.items ≡ places.old.items ++ cons_option place []) }
+fn push_some(positions: &mut Vec<usize>, position: Option<usize>) -> Result<(), AllocError>
+    ensures { OnOk result (positions.new.items ≡ positions.old.items ++ cons_option position []) }
 {
-    match place {
-        Some(place) => Ok(places.push(place)?),
+    match position {
+        Some(position) => Ok(positions.push(position)?),
         None => Ok(()),
     }
 }
 
 // Where some variables stand among others.
-fn places_of(alloc: Global, wanted: &[u32], variables: &[u32]) -> Result<Vec<usize>, AllocError>
-    ensures { IfOk result (λ places. places.items ≡ places_in variables.now wanted.now) }
+fn positions_in(alloc: Global, wanted: &[u32], variables: &[u32]) -> Result<Vec<usize>, AllocError>
+    ensures { IfOk result (λ positions. positions.items ≡ positions_in variables.now wanted.now) }
 {
-    let mut places = Vec::new(alloc);
+    let mut positions = Vec::new(alloc);
     for variable in wanted {
-        push_some(&mut places, place_of(variables, *variable))?;
+        push_some(&mut positions, position_of(variables, *variable))?;
     }
-    Ok(places)
+    Ok(positions)
 }
 
-// Appends a copy of the value that stands at the place.
+// Appends a copy of the value that stands at the position.
 fn push_copy(
     alloc: Global,
     row: &[Value],
-    place: usize,
+    position: usize,
     into: &mut Vec<Value>,
 ) -> Result<(), AllocError>
-    ensures { OnOk result (into.new.items ≡ into.old.items ++ cons_option (slice_get row.now place) []) }
+    ensures { OnOk result (into.new.items ≡ into.old.items ++ cons_option (slice_get row.now position) []) }
 {
-    match value_at(row, place) {
+    match value_at(row, position) {
         Some(value) => Ok(into.push(copy_of(alloc, value)?)?),
         None => Ok(()),
     }
 }
 
-// Appends copies of the values that stand at the places.
+// Appends copies of the values that stand at the positions.
 fn gather(
     alloc: Global,
     row: &[Value],
-    places: &[usize],
+    positions: &[usize],
     into: &mut Vec<Value>,
 ) -> Result<(), AllocError>
-    ensures { OnOk result (into.new.items ≡ into.old.items ++ filter_map (slice_get row.now) places.now) }
+    ensures { OnOk result (into.new.items ≡ into.old.items ++ filter_map (slice_get row.now) positions.now) }
 {
-    for place in places {
-        push_copy(alloc, row, *place, into)?;
+    for position in positions {
+        push_copy(alloc, row, *position, into)?;
     }
     Ok(())
 }
@@ -151,26 +151,26 @@ fn appended(alloc: Global, left: &[u32], right: &[u32]) -> Result<Vec<u32>, Allo
 
 impl JoinShape {
     pub fn new(alloc: Global, left: &Vars, right: &Vars) -> Result<JoinShape, AllocError>
-        requires short { length (glued left.now right.now) ≤ 64 }
+        requires short { length (glued_variables left.now right.now) ≤ 64 }
         ensures left { IfOk result (λ shape. shape.left ≡ left.now) }
         ensures right { IfOk result (λ shape. shape.right ≡ right.now) }
     {
         let (left, right) = (left.as_slice(), right.as_slice());
-        let shared = shared(alloc, left, right)?;
-        let lacked = lacking(alloc, left, right)?;
+        let shared = shared_variables(alloc, left, right)?;
+        let lacking = lacking_variables(alloc, left, right)?;
         Ok(JoinShape {
-            left_key: places_of(alloc, shared.as_slice(), left)?,
-            right_key: places_of(alloc, shared.as_slice(), right)?,
-            lacked: places_of(alloc, lacked.as_slice(), right)?,
+            left_key: positions_in(alloc, shared.as_slice(), left)?,
+            right_key: positions_in(alloc, shared.as_slice(), right)?,
+            lacked: positions_in(alloc, lacking.as_slice(), right)?,
             left: copied(alloc, left)?,
             right: copied(alloc, right)?,
-            variables: Vars::new(appended(alloc, left, lacked.as_slice())?),
+            variables: Vars::new(appended(alloc, left, lacking.as_slice())?),
         })
     }
 
     /// The variables of a glued row: the left ones, and then the right ones that the left lacks.
     pub fn variables(&self) -> &Vars
-        ensures { result.now ≡ glued self.now.left self.now.right }
+        ensures { result.now ≡ glued_variables self.now.left self.now.right }
     {
         &self.variables
     }
@@ -179,17 +179,17 @@ impl JoinShape {
     pub fn glue(&self, alloc: Global, left: &Row, right: &Row) -> Result<Row, AllocError>
         requires left { length left.now ≡ length self.now.left }
         requires right { length right.now ≡ length self.now.right }
-        ensures values { IfOk result (λ g. g ≡ left.now ++ lacked self.now.left self.now.right right.now) }
-        ensures bindings { IfOk result (λ g. over (glued self.now.left self.now.right) g ≡ glue (over self.now.left left.now) (over self.now.right right.now)) }
+        ensures values { IfOk result (λ g. g ≡ left.now ++ lacked_values self.now.left self.now.right right.now) }
+        ensures bindings { IfOk result (λ g. over (glued_variables self.now.left self.now.right) g ≡ glue (over self.now.left left.now) (over self.now.right right.now)) }
     {
         let mut values = copy_values(alloc, left.values())?;
         gather(alloc, right.values(), self.lacked.as_slice(), &mut values)?;
         Ok(Row::new(values))
     }
 
-    fn key_places(&self, side: Side) -> &[usize]
-        ensures places { result.now ≡ key_places side self.now }
-        ensures short { length (glued self.now.left self.now.right) ≤ 64 }
+    fn key_positions(&self, side: Side) -> &[usize]
+        ensures positions { result.now ≡ key_positions side self.now }
+        ensures short { length (glued_variables self.now.left self.now.right) ≤ 64 }
     {
         match side {
             Side::Left => self.left_key.as_slice(),
@@ -203,6 +203,6 @@ impl JoinShape {
         requires width { length row.now ≡ length (vars_of side self.now) }
         ensures key { room.new ≡ row_encoding (key_row side self.now row.now) }
     {
-        room.write(row, self.key_places(side));
+        room.write(row, self.key_positions(side));
     }
 }

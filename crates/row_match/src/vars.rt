@@ -2,7 +2,7 @@
 
 ghost use Rattle.std.specs.Prelude.{◌≡◌, ◌≤◌, length, option_map, slice_get};
 ghost use Rattle.answer_theory.specs.Rows.{AreDistinct};
-ghost use Rattle.row_match.specs.Patterns.{place_of};
+ghost use Rattle.row_match.specs.Patterns.{position_of};
 
 use std::marker::Model;
 use tuple_core::Value;
@@ -47,14 +47,14 @@ impl Vars {
 }
 
 // Where the variable stands.
-pub(crate) fn place_of(variables: &[u32], variable: u32) -> Option<usize>
-    ensures { result ≡ place_of variables.now variable }
+pub(crate) fn position_of(variables: &[u32], variable: u32) -> Option<usize>
+    ensures { result ≡ position_of variables.now variable }
 {
     variables.iter().position(|v| *v == variable)
 }
 
-pub(crate) fn value_at(row: &[Value], place: usize) -> Option<&Value>
-    ensures { option_map (λ v. v.now) result ≡ slice_get row.now place }
+pub(crate) fn value_at(row: &[Value], position: usize) -> Option<&Value>
+    ensures { option_map (λ v. v.now) result ≡ slice_get row.now position }
 {
-    row.get(place)
+    row.get(position)
 }

@@ -1,4 +1,4 @@
-use Rattle.answer_theory.proofs.Rows.{over_values, named_over, over_named, over_is_row, named_firsts, each_once_distinct}
+use Rattle.answer_theory.proofs.Rows.{over_values, named_over, over_named, over_is_row, named_first_entries, each_once_distinct}
 use Rattle.answer_theory.proofs.row_laws.rows_over.Goals as goal
 
 pub returns-clause-values : goal.returns-clause-values
@@ -13,8 +13,8 @@ returns-clause-back g c = over_named
 pub returns-clause-row : goal.returns-clause-row
 returns-clause-row g c = over_is_row
 
-pub returns-clause-firsts : goal.returns-clause-firsts
-returns-clause-firsts g c = named_firsts
+pub returns-clause-first_entries : goal.returns-clause-first_entries
+returns-clause-first_entries g c = named_first_entries
 
 pub returns-clause-distinct : goal.returns-clause-distinct
 returns-clause-distinct g c = each_once_distinct

@@ -1,8 +1,8 @@
 use Rattle.row_match.proofs.Telling.{matched_binds, matched_width}
 use Rattle.row_match.proofs.laws.matched_rows_bind.Goals as goal
 
-pub returns-clause-places : goal.returns-clause-places
-returns-clause-places c = matched_binds
+pub returns-clause-entries : goal.returns-clause-entries
+returns-clause-entries c = matched_binds
 
 pub returns-clause-width : goal.returns-clause-width
 returns-clause-width c = matched_width

@@ -1,7 +1,7 @@
 use Rattle.std.proofs.Common.{◌≡◌, length, List, [], ◌∷◌, ◌++◌, refl, sym, ap, ◌∙◌, arith, append_assoc, append-nil}
 use Rattle.std.specs.Vec.Iter.{into_iter_items}
 use Rattle.row_match.specs.Patterns.{pattern_variables}
-use Rattle.row_match.specs.Prepared.{prepared, terms_of, named_after, place_for}
+use Rattle.row_match.specs.Prepared.{prepared_columns, terms_of, variables_with_term, position_for}
 use Rattle.row_match.proofs.Preparing.{prepared_push, variables_push, prepared_terms, variables_are, variables_distinct, variables_short}
 use Rattle.row_match.proofs.pattern.Pattern.new.Goals as goal
 
@@ -10,12 +10,12 @@ terms-preserved c =
     let inv = c.terms.invariant in
     let term = c.in-Some.term in
     let steps : into_iter_items c.terms.term-iterator ≡ term ∷ into_iter_items c.next.new.self = c.in-Some.ensures.steps.0 in
-    let place = prepared_push [] c.terms.yielded term (record { term = term; place = c.in_ok-place.place }) refl (c.in_ok-place.ensures.place ∙ ap (λ vs. place_for vs term) inv.variables) in
+    let position = prepared_push [] c.terms.yielded term (record { term = term; position = c.in_ok-position.position }) refl (c.in_ok-position.ensures.position ∙ ap (λ vs. position_for vs term) inv.variables) in
     record {
       items = append_assoc c.terms.yielded (term ∷ []) _ ∙ rw (← steps) inv.items;
       len = (let was = inv.len in let gone = c.in-Some.ensures.steps.1 in let short = ap length steps in omega arith);
-      columns = c.in_ok-push.ensures.items ∙ ap (λ cs. cs ++ record { term = term; place = c.in_ok-place.place } ∷ []) inv.columns ∙ sym place;
-      variables = c.in_ok-place.ensures.named ∙ ap (λ vs. named_after vs term) inv.variables ∙ sym (variables_push [] c.terms.yielded term);
+      columns = c.in_ok-push.ensures.items ∙ ap (λ cs. cs ++ record { term = term; position = c.in_ok-position.position } ∷ []) inv.columns ∙ sym position;
+      variables = c.in_ok-position.ensures.named ∙ ap (λ vs. variables_with_term vs term) inv.variables ∙ sym (variables_push [] c.terms.yielded term);
     }
 
 nothing_left : {X : Type 0} (l : List X) → length l ≡ 0 → l ≡ []
@@ -38,7 +38,7 @@ pub invariant_of-result : goal.invariant_of-result
 invariant_of-result c =
     let terms : terms_of c.terms.columns.items ≡ c.terms.yielded = ap terms_of c.terms.invariant.columns ∙ prepared_terms [] c.terms.yielded in
     record {
-      places = c.terms.invariant.columns ∙ ap (prepared []) (sym terms);
+      positions = c.terms.invariant.columns ∙ ap (prepared_columns []) (sym terms);
       named = c.new.ensures ∙ c.terms.invariant.variables ∙ variables_are c.terms.yielded ∙ ap pattern_variables (sym terms);
     }
 

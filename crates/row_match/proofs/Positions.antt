@@ -1,4 +1,4 @@
--- Where a variable stands among others, and what a row has at that place.
+-- Where a variable stands among others, and what a row has at that position.
 use Rattle.std.proofs.Common.{◌≡◌, ℕ, suc, ◌+◌, Bool, true, false, cond, ◌||◌, ◌==◌, List, [], ◌∷◌, ◌++◌, length, Option, Some, None, option_map, slice_get, refl, sym, ap, ◌∙◌, arith}
 use Rattle.std.specs.List.{position_from}
 use Rattle.std.specs.Option.{option_and_then, is_some}
@@ -9,9 +9,9 @@ use Rattle.answer_theory.specs.Solutions.{names}
 use Rattle.answer_theory.specs.Rows.{over, AreDistinct}
 use Rattle.answer_theory.proofs.Bools.{nat_eq_sym}
 use Rattle.answer_theory.proofs.Lists.{any_append}
-use Rattle.row_match.specs.Patterns.{place_of}
+use Rattle.row_match.specs.Patterns.{position_of}
 
--- the place, by recursion
+-- the position, by recursion
 abbrev found_at : List ℕ → ℕ → Option ℕ
 found_at [] v = None
 found_at (u ∷ us) v = cond (u == v) (Some 0) (option_map suc (found_at us v))
@@ -29,7 +29,7 @@ from_first : (v : ℕ) (us : List ℕ) → position_from (λ u. u == v) 0 us ≡
 from_first v [] = refl
 from_first v (u ∷ us) = ap (λ o. cond (u == v) (Some 0) o) (from_next v 0 us ∙ ap (option_map suc) (from_first v us))
 
-is_found : (v : ℕ) (us : List ℕ) → place_of us v ≡ found_at us v
+is_found : (v : ℕ) (us : List ℕ) → position_of us v ≡ found_at us v
 is_found v us = position_from-zero (λ u. u == v) us ∙ from_first v us
 
 value_found : {X : Type 0} (v : ℕ) (us : List ℕ) (row : List X) → length row ≡ length us → value_of (over us row) v ≡ option_and_then (slice_get row) (found_at us v)
@@ -52,11 +52,11 @@ named_found v (u ∷ us) = go (u == v) (found_at us v) (named_found v us)
     go false None h = h
     go false (Some k) h = h
 
-pub value_at : {X : Type 0} (v : ℕ) (us : List ℕ) (row : List X) → length row ≡ length us → value_of (over us row) v ≡ option_and_then (slice_get row) (place_of us v)
+pub value_at : {X : Type 0} (v : ℕ) (us : List ℕ) (row : List X) → length row ≡ length us → value_of (over us row) v ≡ option_and_then (slice_get row) (position_of us v)
 value_at v us row e = value_found v us row e ∙ ap (option_and_then (slice_get row)) (sym (is_found v us))
 
-pub named_by_place : (v : ℕ) (us : List ℕ) → names us v ≡ is_some (place_of us v)
-named_by_place v us = named_found v us ∙ ap is_some (sym (is_found v us))
+pub named_by_position : (v : ℕ) (us : List ℕ) → names us v ≡ is_some (position_of us v)
+named_by_position v us = named_found v us ∙ ap is_some (sym (is_found v us))
 
 pub over_push : {X : Type 0} (us : List ℕ) (row : List X) (v : ℕ) (x : X) → length row ≡ length us → over (us ++ v ∷ []) (row ++ x ∷ []) ≡ over us row ++ (v, x) ∷ []
 over_push [] [] v x e = refl

@@ -1,6 +1,0 @@
-use Rattle.std.proofs.Common.{◌≡◌, take}
-use Rattle.answer_theory.specs.Rows.{shared}
-use Rattle.row_match.proofs.shape.shared.Given as goal
-
-abbrev pub invariant-loop-variable : goal.invariant-loop-variable
-invariant-loop-variable l = l.chosen.items ≡ shared (take l.variable-index l.left) l.right
