@@ -3,8 +3,8 @@ use Rattle.std.proofs.Common.{◌≡◌, ℕ, List, [], ◌∷◌, pos, codes, r
 use Rattle.row_match.specs.declared.pattern.Term.TheVariants.{Variable}
 use Rattle.tuple_core.specs.declared.value.Value.{Value}
 use Rattle.tuple_core.specs.declared.value.Value.TheVariants.{Int, Text}
-use Rattle.query_reader.specs.Answers.{choices, answer}
-use Rattle.query_reader.specs.declared.query.Query.{Query}
+use Rattle.query_core.specs.Answers.{choices, answer_of}
+use Rattle.query_core.specs.declared.query.Query.{Query}
 
 abbrev two : {X : Type 0} → X → X → List X
 two x y = x ∷ y ∷ []
@@ -28,10 +28,10 @@ r = two (int 1) (int 10) ∷ two (int 2) (int 20) ∷ two (int 3) (int 30) ∷ [
 abbrev s : List (List Value)
 s = two (int 20) (Text (codes "b")) ∷ two (int 30) (Text (codes "c")) ∷ two (int 40) (Text (codes "d")) ∷ []
 
-two_choices : choices (by_middle_column 0 1) (two r s) ≡ two (two 1 0) (two 2 1)
+two_choices : choices (by_middle_column 0 1).atoms [] (two r s) ≡ two (two 1 0) (two 2 1)
 two_choices = refl
 
-joined_answer : answer (by_middle_column 0 1) (two r s) ≡ two (two (int 2) (Text (codes "b"))) (two (int 3) (Text (codes "c")))
+joined_answer : answer_of (by_middle_column 0 1) (two r s) ≡ two (two (int 2) (Text (codes "b"))) (two (int 3) (Text (codes "c")))
 joined_answer = refl
 
 -- ---- a relation joined with itself: q(x, z) over e(x, y) and e(y, z)
@@ -39,8 +39,8 @@ joined_answer = refl
 abbrev e : List (List Value)
 e = two (int 1) (int 2) ∷ two (int 2) (int 3) ∷ two (int 2) (int 4) ∷ two (int 3) (int 4) ∷ []
 
-three_choices : choices (by_middle_column 0 0) (two e e) ≡ two 0 1 ∷ two 0 2 ∷ two 1 3 ∷ []
+three_choices : choices (by_middle_column 0 0).atoms [] (two e e) ≡ two 0 1 ∷ two 0 2 ∷ two 1 3 ∷ []
 three_choices = refl
 
-own_answer : answer (by_middle_column 0 0) (two e e) ≡ two (int 1) (int 3) ∷ two (int 1) (int 4) ∷ two (int 2) (int 4) ∷ []
+own_answer : answer_of (by_middle_column 0 0) (two e e) ≡ two (int 1) (int 3) ∷ two (int 1) (int 4) ∷ two (int 2) (int 4) ∷ []
 own_answer = refl

@@ -1,18 +1,19 @@
--- What a query's answer is, over the rows that came for each of its atoms.
-use Rattle.std.specs.Prelude.{ℕ, Bool, List, [], ◌∷◌, map, flat_map}
-use Rattle.std.specs.List.{filter_map}
+-- What an answer is, over the rows that came for each atom: rows that agree, choices, heads, the answer.
+use Rattle.std.specs.Prelude.{ℕ, Bool, ◌&&◌, List, [], ◌∷◌, map, filter, flat_map}
+use Rattle.std.specs.List.{list_all, filter_map}
 use Rattle.std.specs.declared.cmp.Ordering.TheVariants.{Less, Equal, Greater}
-use Rattle.answer_theory.specs.Bindings.{Binding, firsts, value_of}
-use Rattle.answer_theory.specs.Choices.{agreeing, items_at}
-use Rattle.answer_theory.specs.Choices as theory
+use Rattle.answer_theory.specs.Bindings.{Binding, consistent, first_entries, value_of}
+use Rattle.answer_theory.specs.Choices.{fitting_rows, index_lists, items_at}
+use Rattle.answer_theory.specs.Solutions.{solutions}
 use Rattle.tuple_core.specs.RowText.{rows_text}
 use Rattle.tuple_core.specs.Values.{row_cmp}
 use Rattle.tuple_core.specs.declared.value.Value.{Value}
 use Rattle.row_match.specs.Filters.{all_hold}
-use Rattle.row_match.specs.Patterns.{fits, places_of, values_join}
+use Rattle.row_match.specs.Patterns.{fits, entries_of, values_join}
+use Rattle.row_match.specs.declared.filter.Comparison.{Comparison}
 use Rattle.row_match.specs.declared.pattern.Term.{Term}
-use Rattle.query_reader.specs.declared.query.Atom.{Atom}
-use Rattle.query_reader.specs.declared.query.Query.{Query}
+use Rattle.query_core.specs.declared.query.Atom.{Atom}
+use Rattle.query_core.specs.declared.query.Query.{Query}
 
 -- a row, with the terms of the atom that it came for
 abbrev pub Item : Type 0
@@ -23,56 +24,78 @@ abbrev pub item_fits : Item → Bool
 item_fits item = fits item.0 item.1
 
 -- each variable of the atom, with its column's value
-abbrev pub item_binds : Item → Binding Value
-item_binds item = places_of item.0 item.1
+abbrev pub item_entries : Item → Binding Value
+item_entries item = entries_of item.0 item.1
 
+-- the entries of each row, one row after another
+abbrev pub all_entries : List Item → Binding Value
+all_entries rows = flat_map item_entries rows
+
+-- Rows, one for each atom, agree: each constant is its column's value, each variable has one value wherever it stands,
+-- and each comparison holds of these values.
+abbrev pub agrees : List Item → List Comparison → Bool
+agrees rows comparisons = list_all item_fits rows && (consistent values_join (all_entries rows) && all_hold comparisons (first_entries (all_entries rows)))
+
+-- the rows that came for an atom, each with the atom's terms
 abbrev pub items_of : Atom → List (List Value) → List Item
 items_of atom rows = map (λ row. (atom.terms, row)) rows
 
--- the rows that came for each atom, each with the atom's terms
+-- the rows that came for each atom; an atom without a list has none
 abbrev pub items : List Atom → List (List (List Value)) → List (List Item)
 items [] arrivals = []
 items (atom ∷ atoms) [] = [] ∷ items atoms []
 items (atom ∷ atoms) (rows ∷ arrivals) = items_of atom rows ∷ items atoms arrivals
 
--- Rows, one for each atom, agree: each constant is its column's value, each variable has one value at all its places, and each comparison holds of these values.
-abbrev pub agrees : Query → List Item → Bool
-agrees query rows = agreeing values_join item_fits item_binds (all_hold query.comparisons) rows
+-- the rows of a choice: one of each atom, by its index among those that came for the atom
+abbrev pub rows_at : List Atom → List (List (List Value)) → List ℕ → List Item
+rows_at atoms arrivals indices = items_at (items atoms arrivals) indices
 
--- the lists of places, one place for each atom, whose rows agree
-abbrev pub choices : Query → List (List (List Value)) → List (List ℕ)
-choices query arrivals = theory.choices values_join item_fits item_binds (all_hold query.comparisons) (items query.atoms arrivals)
+-- The choices: the lists of indices, one for each atom, whose rows agree.
+abbrev pub choices : List Atom → List Comparison → List (List (List Value)) → List (List ℕ)
+choices atoms comparisons arrivals = filter (λ indices. agrees (rows_at atoms arrivals indices) comparisons) (index_lists (items atoms arrivals))
 
--- what the rows at the places bind, each variable once
-abbrev pub bound_at : Query → List (List (List Value)) → List ℕ → Binding Value
-bound_at query arrivals places = firsts (flat_map item_binds (items_at (items query.atoms arrivals) places))
+-- what the rows of a choice bind, each variable once
+abbrev pub binding_at : List Atom → List (List (List Value)) → List ℕ → Binding Value
+binding_at atoms arrivals indices = first_entries (all_entries (rows_at atoms arrivals indices))
 
 -- the values of the head's variables
-abbrev pub head_row : Query → Binding Value → List Value
-head_row query b = filter_map (value_of b) query.head
+abbrev pub head_row : List ℕ → Binding Value → List Value
+head_row head binding = filter_map (value_of binding) head
 
 -- the head's values over each choice
-abbrev pub heads : Query → List (List (List Value)) → List (List Value)
-heads query arrivals = map (λ places. head_row query (bound_at query arrivals places)) (choices query arrivals)
+abbrev pub heads : List ℕ → List Atom → List Comparison → List (List (List Value)) → List (List Value)
+heads head atoms comparisons arrivals = map (λ indices. head_row head (binding_at atoms arrivals indices)) (choices atoms comparisons arrivals)
 
--- a row put at its place among rows in order, unless it stands there already
-abbrev pub put : List Value → List (List Value) → List (List Value)
-put row [] = row ∷ []
-put row (other ∷ rows) = elim (row_cmp row other) [
+-- rows in order with one more, unless it stands there already
+abbrev pub rows_with : List Value → List (List Value) → List (List Value)
+rows_with row [] = row ∷ []
+rows_with row (other ∷ rows) = elim (row_cmp row other) [
   | Less ↦ row ∷ other ∷ rows
   | Equal ↦ other ∷ rows
-  | Greater ↦ other ∷ put row rows
+  | Greater ↦ other ∷ rows_with row rows
 ]
 
 -- the rows in their order, each once
-abbrev pub in_order : List (List Value) → List (List Value)
-in_order [] = []
-in_order (row ∷ rows) = put row (in_order rows)
+abbrev pub ordered_rows : List (List Value) → List (List Value)
+ordered_rows [] = []
+ordered_rows (row ∷ rows) = rows_with row (ordered_rows rows)
 
 -- The answer: the distinct heads of the choices, in their order.
-abbrev pub answer : Query → List (List (List Value)) → List (List Value)
-answer query arrivals = in_order (heads query arrivals)
+abbrev pub answer : List ℕ → List Atom → List Comparison → List (List (List Value)) → List (List Value)
+answer head atoms comparisons arrivals = ordered_rows (heads head atoms comparisons arrivals)
 
--- the answer's text: a line of CSV for each row
+-- the answer of a whole query
+abbrev pub answer_of : Query → List (List (List Value)) → List (List Value)
+answer_of query arrivals = answer query.head query.atoms query.comparisons arrivals
+
+-- its text: a line of CSV for each row
 abbrev pub answer_text : Query → List (List (List Value)) → List ℕ
-answer_text query arrivals = rows_text (answer query arrivals)
+answer_text query arrivals = rows_text (answer_of query arrivals)
+
+-- what each row of each atom binds, where the atom's constants are the row's: the leaves of joins
+abbrev pub leaf_rows : List Atom → List (List (List Value)) → List (List (Binding Value))
+leaf_rows atoms arrivals = map (fitting_rows item_fits item_entries) (items atoms arrivals)
+
+-- what the choices bind, as joins find it: one row of each leaf, in each way, where these agree
+abbrev pub solutions_of : List Atom → List Comparison → List (List (List Value)) → List (Binding Value)
+solutions_of atoms comparisons arrivals = solutions values_join (all_hold comparisons) (leaf_rows atoms arrivals)

@@ -1,15 +1,42 @@
-//! The law of the answer: what it is, and that there is only one such list.
+//! The laws of answers, for callers' proofs.
 
-ghost use Rattle.std.specs.Prelude.{◌≡◌, List};
-ghost use Rattle.query_reader.specs.Answers.{answer, heads};
-ghost use Rattle.query_reader.specs.declared.query.Query.{Query as AQuery};
+ghost use Rattle.std.specs.Prelude.{◌≡◌, ℕ, List, map};
+ghost use Rattle.answer_theory.specs.Bags.{SameBag};
+ghost use Rattle.answer_theory.specs.Bindings.{Binding};
+ghost use Rattle.answer_theory.specs.Solutions.{valuations};
+ghost use Rattle.query_core.specs.Answers.{answer, binding_at, choices, head_row, heads, solutions_of};
+ghost use Rattle.query_core.specs.declared.query.Atom.{Atom as AnAtom};
+ghost use Rattle.row_match.specs.declared.filter.Comparison.{Comparison as AComparison};
 ghost use Rattle.tuple_core.specs.Distinct.{AreSortedDistinct};
 ghost use Rattle.tuple_core.specs.declared.value.Value.{Value as AValue};
 
 /// The answer is strictly sorted and has the same rows as the heads of the choices; and only one list is so.
 pub fn one_answer()
-    ensures is { (query : AQuery) (arrivals : List (List (List AValue)))
-        → AreSortedDistinct (heads query arrivals) (answer query arrivals) }
-    ensures only { (query : AQuery) (arrivals : List (List (List AValue))) (rows : List (List AValue))
-        → AreSortedDistinct (heads query arrivals) rows → rows ≡ answer query arrivals }
+    ensures is { (head : List ℕ) (atoms : List AnAtom) (comparisons : List AComparison) (arrivals : List (List (List AValue)))
+        → AreSortedDistinct (heads head atoms comparisons arrivals) (answer head atoms comparisons arrivals) }
+    ensures only { (head : List ℕ) (atoms : List AnAtom) (comparisons : List AComparison) (arrivals : List (List (List AValue)))
+        (rows : List (List AValue))
+        → AreSortedDistinct (heads head atoms comparisons arrivals) rows → rows ≡ answer head atoms comparisons arrivals }
+{}
+
+/// What the choices bind, in their order, are the solutions over the atoms' leaves; and the heads are those of the
+/// solutions.
+pub fn heads_of_solutions()
+    ensures bindings { (atoms : List AnAtom) (comparisons : List AComparison) (arrivals : List (List (List AValue)))
+        → map (binding_at atoms arrivals) (choices atoms comparisons arrivals) ≡ solutions_of atoms comparisons arrivals }
+    ensures heads { (head : List ℕ) (atoms : List AnAtom) (comparisons : List AComparison) (arrivals : List (List (List AValue)))
+        → heads head atoms comparisons arrivals ≡ map (head_row head) (solutions_of atoms comparisons arrivals) }
+{}
+
+/// Rows that give each variable the same values as the solutions, each as often, have the same heads, each as often;
+/// and the heads in order, each once, are the answer.
+pub fn same_values_answer()
+    ensures heads { (head : List ℕ) (atoms : List AnAtom) (comparisons : List AComparison) (arrivals : List (List (List AValue)))
+        (found : List (Binding AValue))
+        → SameBag (valuations found) (valuations (solutions_of atoms comparisons arrivals))
+        → SameBag (map (head_row head) found) (heads head atoms comparisons arrivals) }
+    ensures answer { (head : List ℕ) (atoms : List AnAtom) (comparisons : List AComparison) (arrivals : List (List (List AValue)))
+        (found rows : List (List AValue))
+        → SameBag found (heads head atoms comparisons arrivals) → AreSortedDistinct found rows
+        → rows ≡ answer head atoms comparisons arrivals }
 {}

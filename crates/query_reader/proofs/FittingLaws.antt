@@ -28,7 +28,7 @@ use Rattle.query_reader.specs.Kinds.{columns_in, columns_of, relation_named}
 use Rattle.query_reader.specs.Named.{firsts_named, has_name, number_named}
 use Rattle.query_reader.specs.Parts.{Occurrence, Pieces, atom_in, atom_variables, comparison_in, comparison_variables, named, of_word, part_variables, pieces_of, term_variables, variables_of}
 use Rattle.query_reader.specs.Reading.{answered, atom_of, checked, comparison_of, query_in, query_of, term_of, value_of}
-use Rattle.query_reader.specs.declared.query.Query.{Query}
+use Rattle.query_core.specs.declared.query.Query.{Query}
 use Rattle.query_reader.proofs.FirstLaws.{has_of_firsts}
 use Rattle.query_reader.proofs.GrammarLaws.{some_head}
 

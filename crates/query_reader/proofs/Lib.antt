@@ -3,6 +3,4 @@ pub mod FirstLaws
 pub mod PlacesLaws
 mod GrammarLaws
 pub mod FittingLaws
-pub mod Sorting
-pub mod Examples
 mod ReadingExamples

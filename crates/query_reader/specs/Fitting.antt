@@ -5,8 +5,8 @@ use Rattle.cat_reader.specs.declared.catalogue.Relation.{Relation}
 use Rattle.row_match.specs.declared.filter.Comparison.{Comparison}
 use Rattle.row_match.specs.declared.pattern.Term.{Term}
 use Rattle.row_match.specs.declared.pattern.Term.TheVariants.{Constant, Variable}
-use Rattle.query_reader.specs.declared.query.Atom.{Atom}
-use Rattle.query_reader.specs.declared.query.Query.{Query}
+use Rattle.query_core.specs.declared.query.Atom.{Atom}
+use Rattle.query_core.specs.declared.query.Query.{Query}
 
 -- a variable's number is below 64
 abbrev pub IsNumbered : Term → Type 0

@@ -17,8 +17,8 @@ use Rattle.text_reading.specs.declared.checks.Broken.{Broken}
 use Rattle.query_reader.specs.Checks.{checks_of}
 use Rattle.query_reader.specs.Named.{number_named}
 use Rattle.query_reader.specs.Parts.{Occurrence, Pieces, pieces_of}
-use Rattle.query_reader.specs.declared.query.Atom.{Atom}
-use Rattle.query_reader.specs.declared.query.Query.{Query}
+use Rattle.query_core.specs.declared.query.Atom.{Atom}
+use Rattle.query_core.specs.declared.query.Query.{Query}
 use Rattle.query_reader.specs.declared.reading.QueryFault.{QueryFault}
 use Rattle.query_reader.specs.declared.reading.QueryFault.TheVariants.{Refused, NoMemory}
 

@@ -2,10 +2,10 @@
 
 mod texts;
 
-use crate::query::Query;
 use crate::reading::check;
 use cat_reader::{Catalogue, read_catalogue};
 use med_prelude::{Listed, ReadFault, Text};
+use query_core::Query;
 use query_syntax::{Part, PlacedTerm, Syntax, Word, Written, WrittenAtom, WrittenComparison};
 use row_match::Term;
 use std::alloc::{AllocError, Global};

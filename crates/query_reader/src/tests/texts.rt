@@ -1,8 +1,8 @@
 //! Texts, with what they are read as or where they are refused.
 
 use super::{Shown, assert_atom, assert_compared, catalogue};
-use crate::query::Query;
 use crate::{LONGEST_QUERY, QueryFault, read_query};
+use query_core::Query;
 use std::alloc::{AllocError, Global};
 use std::process::Abort;
 use std::test::Fail;
