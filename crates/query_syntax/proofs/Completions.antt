@@ -2,8 +2,8 @@
 use Rattle.std.proofs.Common.{◌≡◌, [], ◌∷◌, ◌++◌, Some, append_assoc, append-nil, refl, sym, ap, subst, ◌∙◌}
 use Rattle.med_prelude.specs.Names.{continues_name, is_truth_word, starts_name}
 use Rattle.tuple_core.specs.declared.comparing.Op.{Op}
-use Rattle.query_syntax.specs.Grammar.{IsReal, Viable, query}
-use Rattle.query_syntax.specs.Machine.{comparison, step, syntax_in, variable, with_part, with_term, with_variable}
+use Rattle.query_syntax.specs.Grammar.{IsReal, Viable, query_tokens}
+use Rattle.query_syntax.specs.Machine.{comparison_part, step, syntax_in, variable_term, with_part, with_term, with_variable}
 use Rattle.query_syntax.specs.Tokens.{truth_in}
 use Rattle.query_syntax.specs.declared.machine.Body.{Body}
 use Rattle.query_syntax.specs.declared.machine.Head.{Head}
@@ -61,19 +61,19 @@ by_token s t next real leads lives = record {
 }
 
 done : (q : Syntax) → Lives (Done q)
-done q = record { viable = λ h. record { value = q; rest = []; whole = h; real = tt; spelt = sym (append-nil (query q)) } }
+done q = record { viable = λ h. record { value = q; rest = []; whole = h; real = tt; spelt = sym (append-nil (query_tokens q)) } }
 
 part_end : (b : Body) → Lives (PartEnd b)
 part_end b = by_token (PartEnd b) Stop (Done (syntax_in b)) real_stop refl (done (syntax_in b))
 
 compared : (b : Body) (w : Word) (o : Op) → Lives (Compared b w o)
-compared b w o = by_token (Compared b w o) (Name x) (PartEnd (with_part b (comparison w o (variable x)))) real_x refl (part_end (with_part b (comparison w o (variable x))))
+compared b w o = by_token (Compared b w o) (Name x) (PartEnd (with_part b (comparison_part w o (variable_term x)))) real_x refl (part_end (with_part b (comparison_part w o (variable_term x))))
 
 term_end : (b : Body) (a : WrittenAtom) → Lives (TermEnd b a)
 term_end b a = by_token (TermEnd b a) Close (PartEnd (with_part b (Atom a))) real_close refl (part_end (with_part b (Atom a)))
 
 term_start : (b : Body) (a : WrittenAtom) → Lives (TermStart b a)
-term_start b a = by_token (TermStart b a) (Name x) (TermEnd b (with_term a (variable x))) real_x refl (term_end b (with_term a (variable x)))
+term_start b a = by_token (TermStart b a) (Name x) (TermEnd b (with_term a (variable_term x))) real_x refl (term_end b (with_term a (variable_term x)))
 
 part_named : (b : Body) (w : Word) → Lives (PartNamed b w)
 part_named b w = by_token (PartNamed b w) Open (TermStart b (record { relation = w; terms = [] })) real_open refl (term_start b (record { relation = w; terms = [] }))

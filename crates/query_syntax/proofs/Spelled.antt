@@ -1,8 +1,8 @@
 -- What a state of the machine has read, and that each step reads its token.
 use Rattle.std.proofs.Common.{◌≡◌, List, [], ◌∷◌, ◌++◌, Option, Some, None, append_assoc, append-nil, refl, sym, ap, ◌∙◌}
 use Rattle.std.specs.List.{AllByRecursion}
-use Rattle.query_syntax.specs.Grammar.{IsFull, IsPart, IsQuery, listed, more, part, query, term, word}
-use Rattle.query_syntax.specs.Machine.{comparison, constant, step, variable, with_part}
+use Rattle.query_syntax.specs.Grammar.{IsFull, IsPart, IsQuery, comma_items, comma_list, part_tokens, query_tokens, term_tokens, word_tokens}
+use Rattle.query_syntax.specs.Machine.{comparison_part, constant_term, step, variable_term, with_part}
 use Rattle.query_syntax.specs.declared.machine.Body.{Body}
 use Rattle.query_syntax.specs.declared.machine.Head.{Head}
 use Rattle.query_syntax.specs.declared.machine.State.{State}
@@ -19,22 +19,22 @@ each_comma f (x ∷ xs) = f x ++ (Comma ∷ each_comma f xs)
 
 -- all up to and with `:-`
 abbrev pub header : Head → List Token
-header h = Name h.name ∷ Open ∷ (listed word h.variables ++ (Close ∷ If ∷ []))
+header h = Name h.name ∷ Open ∷ (comma_list word_tokens h.variables ++ (Close ∷ If ∷ []))
 
 -- the tokens that were read
 abbrev pub spelled : State → List Token
 spelled Start = []
 spelled (Named n) = Name n ∷ []
-spelled (HeadStart h) = Name h.name ∷ Open ∷ each_comma word h.variables
-spelled (HeadEnd h) = Name h.name ∷ Open ∷ listed word h.variables
-spelled (HeadClosed h) = Name h.name ∷ Open ∷ (listed word h.variables ++ Close ∷ [])
-spelled (PartStart b) = header b.head ++ each_comma part b.parts
-spelled (PartNamed b w) = header b.head ++ (each_comma part b.parts ++ (Name w ∷ []))
-spelled (TermStart b a) = header b.head ++ (each_comma part b.parts ++ (Name a.relation ∷ Open ∷ each_comma term a.terms))
-spelled (TermEnd b a) = header b.head ++ (each_comma part b.parts ++ (Name a.relation ∷ Open ∷ listed term a.terms))
-spelled (Compared b w o) = header b.head ++ (each_comma part b.parts ++ (Name w ∷ Compares o ∷ []))
-spelled (PartEnd b) = header b.head ++ listed part b.parts
-spelled (Done q) = query q
+spelled (HeadStart h) = Name h.name ∷ Open ∷ each_comma word_tokens h.variables
+spelled (HeadEnd h) = Name h.name ∷ Open ∷ comma_list word_tokens h.variables
+spelled (HeadClosed h) = Name h.name ∷ Open ∷ (comma_list word_tokens h.variables ++ Close ∷ [])
+spelled (PartStart b) = header b.head ++ each_comma part_tokens b.parts
+spelled (PartNamed b w) = header b.head ++ (each_comma part_tokens b.parts ++ (Name w ∷ []))
+spelled (TermStart b a) = header b.head ++ (each_comma part_tokens b.parts ++ (Name a.relation ∷ Open ∷ each_comma term_tokens a.terms))
+spelled (TermEnd b a) = header b.head ++ (each_comma part_tokens b.parts ++ (Name a.relation ∷ Open ∷ comma_list term_tokens a.terms))
+spelled (Compared b w o) = header b.head ++ (each_comma part_tokens b.parts ++ (Name w ∷ Compares o ∷ []))
+spelled (PartEnd b) = header b.head ++ comma_list part_tokens b.parts
+spelled (Done q) = query_tokens q
 
 -- the lists that were closed are not empty
 pub record IsBody (b : Body) : Type 0 where
@@ -65,21 +65,21 @@ pub all_push : (ps : List Part) (p : Part) → AllByRecursion IsPart ps → IsPa
 all_push [] p all last = (last, tt)
 all_push (q ∷ ps) p all last = (all.0, all_push ps p all.1 last)
 
-more_push : {X : Type 0} (f : X → List Token) (xs : List X) (x : X) → more f (xs ++ x ∷ []) ≡ (Comma ∷ each_comma f xs) ++ f x
+more_push : {X : Type 0} (f : X → List Token) (xs : List X) (x : X) → comma_items f (xs ++ x ∷ []) ≡ (Comma ∷ each_comma f xs) ++ f x
 more_push f [] x = ap (λ ts. Comma ∷ ts) (append-nil (f x))
 more_push f (y ∷ xs) x = ap (λ ts. Comma ∷ ts) (ap (λ ts. f y ++ ts) (more_push f xs x) ∙ sym (append_assoc (f y) (Comma ∷ each_comma f xs) (f x)))
 
-pub listed_push : {X : Type 0} (f : X → List Token) (xs : List X) (x : X) → listed f (xs ++ x ∷ []) ≡ each_comma f xs ++ f x
-listed_push f [] x = append-nil (f x)
-listed_push f (y ∷ xs) x = ap (λ ts. f y ++ ts) (more_push f xs x) ∙ sym (append_assoc (f y) (Comma ∷ each_comma f xs) (f x))
+pub comma_list_push : {X : Type 0} (f : X → List Token) (xs : List X) (x : X) → comma_list f (xs ++ x ∷ []) ≡ each_comma f xs ++ f x
+comma_list_push f [] x = append-nil (f x)
+comma_list_push f (y ∷ xs) x = ap (λ ts. f y ++ ts) (more_push f xs x) ∙ sym (append_assoc (f y) (Comma ∷ each_comma f xs) (f x))
 
-more_comma : {X : Type 0} (f : X → List Token) (xs : List X) → Comma ∷ each_comma f xs ≡ more f xs ++ Comma ∷ []
+more_comma : {X : Type 0} (f : X → List Token) (xs : List X) → Comma ∷ each_comma f xs ≡ comma_items f xs ++ Comma ∷ []
 more_comma f [] = refl
-more_comma f (x ∷ xs) = ap (λ ts. Comma ∷ ts) (ap (λ ts. f x ++ ts) (more_comma f xs) ∙ sym (append_assoc (f x) (more f xs) (Comma ∷ [])))
+more_comma f (x ∷ xs) = ap (λ ts. Comma ∷ ts) (ap (λ ts. f x ++ ts) (more_comma f xs) ∙ sym (append_assoc (f x) (comma_items f xs) (Comma ∷ [])))
 
-pub listed_comma : {X : Type 0} (f : X → List Token) (xs : List X) → IsFull xs → each_comma f xs ≡ listed f xs ++ Comma ∷ []
-listed_comma f [] full = absurd full
-listed_comma f (x ∷ xs) full = ap (λ ts. f x ++ ts) (more_comma f xs) ∙ sym (append_assoc (f x) (more f xs) (Comma ∷ []))
+pub comma_list_comma : {X : Type 0} (f : X → List Token) (xs : List X) → IsFull xs → each_comma f xs ≡ comma_list f xs ++ Comma ∷ []
+comma_list_comma f [] full = absurd full
+comma_list_comma f (x ∷ xs) full = ap (λ ts. f x ++ ts) (more_comma f xs) ∙ sym (append_assoc (f x) (comma_items f xs) (Comma ∷ []))
 
 -- behind two tokens of a part
 deep : (front parts inner last : List Token) (t u : Token) → front ++ (parts ++ (t ∷ u ∷ (inner ++ last))) ≡ (front ++ (parts ++ (t ∷ u ∷ inner))) ++ last
@@ -99,49 +99,49 @@ body_push b p h last = (record { head = h.head; each = all_push b.parts p h.each
 pub keeps : (s : State) (t : Token) → IsSound s → Keeps s t (step s t)
 keeps Start (Name n) h = (tt, refl)
 keeps (Named n) Open h = (tt, refl)
-keeps (HeadStart q) (Name v) h = (full_push q.variables v, ap (λ ts. Name q.name ∷ Open ∷ ts) (listed_push word q.variables v))
-keeps (HeadEnd q) Comma h = (tt, ap (λ ts. Name q.name ∷ Open ∷ ts) (listed_comma word q.variables h))
+keeps (HeadStart q) (Name v) h = (full_push q.variables v, ap (λ ts. Name q.name ∷ Open ∷ ts) (comma_list_push word_tokens q.variables v))
+keeps (HeadEnd q) Comma h = (tt, ap (λ ts. Name q.name ∷ Open ∷ ts) (comma_list_comma word_tokens q.variables h))
 keeps (HeadEnd q) Close h = (h, refl)
 keeps (HeadClosed q) If h =
-    (record { head = h; each = tt }, append-nil (header q) ∙ ap (λ ts. Name q.name ∷ Open ∷ ts) (sym (append_assoc (listed word q.variables) (Close ∷ []) (If ∷ []))))
-keeps (PartStart b) (Name w) h = (h, sym (append_assoc (header b.head) (each_comma part b.parts) (Name w ∷ [])))
-keeps (PartNamed b w) Open h = (h, shallow (header b.head) (each_comma part b.parts) (Name w ∷ []) (Open ∷ []))
-keeps (PartNamed b w) (Compares o) h = (h, shallow (header b.head) (each_comma part b.parts) (Name w ∷ []) (Compares o ∷ []))
+    (record { head = h; each = tt }, append-nil (header q) ∙ ap (λ ts. Name q.name ∷ Open ∷ ts) (sym (append_assoc (comma_list word_tokens q.variables) (Close ∷ []) (If ∷ []))))
+keeps (PartStart b) (Name w) h = (h, sym (append_assoc (header b.head) (each_comma part_tokens b.parts) (Name w ∷ [])))
+keeps (PartNamed b w) Open h = (h, shallow (header b.head) (each_comma part_tokens b.parts) (Name w ∷ []) (Open ∷ []))
+keeps (PartNamed b w) (Compares o) h = (h, shallow (header b.head) (each_comma part_tokens b.parts) (Name w ∷ []) (Compares o ∷ []))
 keeps (TermStart b a) (Name v) h = (
-  (h, full_push a.terms (variable v)),
-  ap (λ ts. header b.head ++ (each_comma part b.parts ++ (Name a.relation ∷ Open ∷ ts))) (listed_push term a.terms (variable v))
-      ∙ deep (header b.head) (each_comma part b.parts) (each_comma term a.terms) (Name v ∷ []) (Name a.relation) Open,
+  (h, full_push a.terms (variable_term v)),
+  ap (λ ts. header b.head ++ (each_comma part_tokens b.parts ++ (Name a.relation ∷ Open ∷ ts))) (comma_list_push term_tokens a.terms (variable_term v))
+      ∙ deep (header b.head) (each_comma part_tokens b.parts) (each_comma term_tokens a.terms) (Name v ∷ []) (Name a.relation) Open,
 )
-keeps (TermStart b a) (Constant v place) h = (
-  (h, full_push a.terms (constant v place)),
-  ap (λ ts. header b.head ++ (each_comma part b.parts ++ (Name a.relation ∷ Open ∷ ts))) (listed_push term a.terms (constant v place))
-      ∙ deep (header b.head) (each_comma part b.parts) (each_comma term a.terms) (Constant v place ∷ []) (Name a.relation) Open,
+keeps (TermStart b a) (Constant v at) h = (
+  (h, full_push a.terms (constant_term v at)),
+  ap (λ ts. header b.head ++ (each_comma part_tokens b.parts ++ (Name a.relation ∷ Open ∷ ts))) (comma_list_push term_tokens a.terms (constant_term v at))
+      ∙ deep (header b.head) (each_comma part_tokens b.parts) (each_comma term_tokens a.terms) (Constant v at ∷ []) (Name a.relation) Open,
 )
 keeps (TermEnd b a) Comma h = (
   h.0,
-  ap (λ ts. header b.head ++ (each_comma part b.parts ++ (Name a.relation ∷ Open ∷ ts))) (listed_comma term a.terms h.1)
-      ∙ deep (header b.head) (each_comma part b.parts) (listed term a.terms) (Comma ∷ []) (Name a.relation) Open,
+  ap (λ ts. header b.head ++ (each_comma part_tokens b.parts ++ (Name a.relation ∷ Open ∷ ts))) (comma_list_comma term_tokens a.terms h.1)
+      ∙ deep (header b.head) (each_comma part_tokens b.parts) (comma_list term_tokens a.terms) (Comma ∷ []) (Name a.relation) Open,
 )
 keeps (TermEnd b a) Close h = (
   body_push b (Atom a) h.0 h.1,
-  ap (λ ts. header b.head ++ ts) (listed_push part b.parts (Atom a))
-      ∙ deep (header b.head) (each_comma part b.parts) (listed term a.terms) (Close ∷ []) (Name a.relation) Open,
+  ap (λ ts. header b.head ++ ts) (comma_list_push part_tokens b.parts (Atom a))
+      ∙ deep (header b.head) (each_comma part_tokens b.parts) (comma_list term_tokens a.terms) (Close ∷ []) (Name a.relation) Open,
 )
 keeps (Compared b w o) (Name v) h = (
-  body_push b (comparison w o (variable v)) h tt,
-  ap (λ ts. header b.head ++ ts) (listed_push part b.parts (comparison w o (variable v)))
-      ∙ deep (header b.head) (each_comma part b.parts) [] (Name v ∷ []) (Name w) (Compares o),
+  body_push b (comparison_part w o (variable_term v)) h tt,
+  ap (λ ts. header b.head ++ ts) (comma_list_push part_tokens b.parts (comparison_part w o (variable_term v)))
+      ∙ deep (header b.head) (each_comma part_tokens b.parts) [] (Name v ∷ []) (Name w) (Compares o),
 )
-keeps (Compared b w o) (Constant v place) h = (
-  body_push b (comparison w o (constant v place)) h tt,
-  ap (λ ts. header b.head ++ ts) (listed_push part b.parts (comparison w o (constant v place)))
-      ∙ deep (header b.head) (each_comma part b.parts) [] (Constant v place ∷ []) (Name w) (Compares o),
+keeps (Compared b w o) (Constant v at) h = (
+  body_push b (comparison_part w o (constant_term v at)) h tt,
+  ap (λ ts. header b.head ++ ts) (comma_list_push part_tokens b.parts (comparison_part w o (constant_term v at)))
+      ∙ deep (header b.head) (each_comma part_tokens b.parts) [] (Constant v at ∷ []) (Name w) (Compares o),
 )
 keeps (PartEnd b) Comma h =
-    (h.0, ap (λ ts. header b.head ++ ts) (listed_comma part b.parts h.1) ∙ sym (append_assoc (header b.head) (listed part b.parts) (Comma ∷ [])))
+    (h.0, ap (λ ts. header b.head ++ ts) (comma_list_comma part_tokens b.parts h.1) ∙ sym (append_assoc (header b.head) (comma_list part_tokens b.parts) (Comma ∷ [])))
 keeps (PartEnd b) Stop h = (
   record { head = h.0.head; parts = h.1; each = h.0.each },
-  ap (λ ts. Name b.head.name ∷ Open ∷ ts) (sym (append_assoc (listed word b.head.variables) (Close ∷ If ∷ []) (listed part b.parts ++ Stop ∷ [])))
-      ∙ sym (append_assoc (header b.head) (listed part b.parts) (Stop ∷ [])),
+  ap (λ ts. Name b.head.name ∷ Open ∷ ts) (sym (append_assoc (comma_list word_tokens b.head.variables) (Close ∷ If ∷ []) (comma_list part_tokens b.parts ++ Stop ∷ [])))
+      ∙ sym (append_assoc (header b.head) (comma_list part_tokens b.parts) (Stop ∷ [])),
 )
 keeps _ _ h = tt

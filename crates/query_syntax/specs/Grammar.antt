@@ -4,45 +4,45 @@ use Rattle.std.specs.List.{AllByRecursion}
 use Rattle.query_syntax.specs.Tokens.{token_at}
 use Rattle.query_syntax.specs.declared.syntax.Part.{Part}
 use Rattle.query_syntax.specs.declared.syntax.Part.TheVariants.{Atom, Comparison}
-use Rattle.query_syntax.specs.declared.syntax.PlacedTerm.{PlacedTerm}
+use Rattle.query_syntax.specs.declared.syntax.WrittenTerm.{WrittenTerm}
 use Rattle.query_syntax.specs.declared.syntax.Syntax.{Syntax}
 use Rattle.query_syntax.specs.declared.syntax.Word.{Word}
-use Rattle.query_syntax.specs.declared.syntax.Written.{Written}
-use Rattle.query_syntax.specs.declared.syntax.Written.TheVariants as written
+use Rattle.query_syntax.specs.declared.syntax.NamedTerm.{NamedTerm}
+use Rattle.query_syntax.specs.declared.syntax.NamedTerm.TheVariants as written
 use Rattle.query_syntax.specs.declared.token.Token.{Token}
 use Rattle.query_syntax.specs.declared.token.Token.TheVariants.{Name, Constant, Compares, Open, Close, Comma, If, Stop}
 use Rattle.text_reading.specs.Grammars as grammar
 use Rattle.text_reading.specs.Lexing.{Lexeme}
 
 -- a comma and an item, for each item
-abbrev pub more : {X : Type 0} → (X → List Token) → List X → List Token
-more f [] = []
-more f (x ∷ xs) = Comma ∷ (f x ++ more f xs)
+abbrev pub comma_items : {X : Type 0} → (X → List Token) → List X → List Token
+comma_items f [] = []
+comma_items f (x ∷ xs) = Comma ∷ (f x ++ comma_items f xs)
 
 -- items with commas between them
-abbrev pub listed : {X : Type 0} → (X → List Token) → List X → List Token
-listed f [] = []
-listed f (x ∷ xs) = f x ++ more f xs
+abbrev pub comma_list : {X : Type 0} → (X → List Token) → List X → List Token
+comma_list f [] = []
+comma_list f (x ∷ xs) = f x ++ comma_items f xs
 
-abbrev pub word : Word → List Token
-word w = Name w ∷ []
+abbrev pub word_tokens : Word → List Token
+word_tokens w = Name w ∷ []
 
--- what is written at a place
-abbrev pub written_at : ℕ → Written → Token
-written_at place (written.Variable name) = Name (record { name = name; at = place })
-written_at place (written.Constant value) = Constant value place
+-- a variable or a constant that stands at an offset
+abbrev pub named_token : ℕ → NamedTerm → Token
+named_token at (written.Variable name) = Name (record { name = name; at = at })
+named_token at (written.Constant value) = Constant value at
 
-abbrev pub term : PlacedTerm → List Token
-term t = written_at t.at t.written ∷ []
+abbrev pub term_tokens : WrittenTerm → List Token
+term_tokens t = named_token t.at t.written ∷ []
 
 -- `relation(term, ..)`, or a name, an operator and a term
-abbrev pub part : Part → List Token
-part (Atom a) = Name a.relation ∷ Open ∷ (listed term a.terms ++ Close ∷ [])
-part (Comparison c) = Name c.left ∷ Compares c.op ∷ term c.right
+abbrev pub part_tokens : Part → List Token
+part_tokens (Atom a) = Name a.relation ∷ Open ∷ (comma_list term_tokens a.terms ++ Close ∷ [])
+part_tokens (Comparison c) = Name c.left ∷ Compares c.op ∷ term_tokens c.right
 
 -- `name(variable, ..) :- part, .. .`
-abbrev pub query : Syntax → List Token
-query q = Name q.name ∷ Open ∷ (listed word q.head ++ (Close ∷ If ∷ (listed part q.parts ++ Stop ∷ [])))
+abbrev pub query_tokens : Syntax → List Token
+query_tokens q = Name q.name ∷ Open ∷ (comma_list word_tokens q.head ++ (Close ∷ If ∷ (comma_list part_tokens q.parts ++ Stop ∷ [])))
 
 -- there is an item
 abbrev pub IsFull : {X : Type 0} → List X → Type 0
@@ -65,14 +65,14 @@ pub record IsReal (t : Token) : Type 0 where
   pub bytes : List ℕ
   pub spelt : token_at at bytes ≡ Some (t, length bytes)
 
--- the tokens are those of the query, with its places
+-- the tokens are those of the query, with its offsets
 abbrev pub Spells : List Token → Syntax → Type 0
-Spells = grammar.Spells query IsQuery IsReal
+Spells = grammar.Spells query_tokens IsQuery IsReal
 
 -- real tokens continue them to those of a query
 abbrev pub Viable : List Token → Type 0
-Viable = grammar.Viable query IsQuery IsReal
+Viable = grammar.Viable query_tokens IsQuery IsReal
 
--- the place of the first token that can't continue any query, or the length of a text that ends too early
+-- the offset of the first token that can't continue any query, or the length of a text that ends too early
 abbrev pub BreaksAt : List (Lexeme Token) → ℕ → ℕ → Type 0
-BreaksAt = grammar.BreaksAt query IsQuery IsReal
+BreaksAt = grammar.BreaksAt query_tokens IsQuery IsReal

@@ -1,27 +1,27 @@
--- The query that a text spells, or the place where it goes wrong.
+-- The query that a text spells, or the offset where it goes wrong.
 use Rattle.std.specs.Prelude.{ℕ, List, length, Option, Some, None, Result}
 use Rattle.text_reading.specs.Lexing.{lexes}
 use Rattle.text_reading.specs.Machines.{read}
-use Rattle.query_syntax.specs.Machine.{finished, step}
+use Rattle.query_syntax.specs.Machine.{finished_query, step}
 use Rattle.query_syntax.specs.Tokens.{lexemes_of, lexicon, token_at}
 use Rattle.query_syntax.specs.declared.machine.State.{State}
 use Rattle.query_syntax.specs.declared.machine.State.TheVariants.{Start}
 use Rattle.query_syntax.specs.declared.syntax.Syntax.{Syntax}
 
 -- the state that a token of so many bytes leads to
-abbrev pub reached : ℕ → Option State → Option (State × ℕ)
-reached len None = None
-reached len (Some next) = Some (next, len)
+abbrev pub state_and_length : ℕ → Option State → Option (State × ℕ)
+state_and_length len None = None
+state_and_length len (Some next) = Some (next, len)
 
--- the state after the token that bytes at a place begin with, and the token's length
+-- the state after the token that bytes at an offset begin with, and the token's length
 abbrev pub advance : State → ℕ → List ℕ → Option (State × ℕ)
-advance state place bytes = elim (token_at place bytes) [ None ↦ None | Some read ↦ reached read.1 (step state read.0) ]
+advance state at bytes = elim (token_at at bytes) [ None ↦ None | Some read ↦ state_and_length read.1 (step state read.0) ]
 
--- what is read from a state on, of bytes that stand at a place of a text of that size
-unfoldable pub read_from : ℕ → State → ℕ → List ℕ → Result Syntax ℕ
-read_from size state place bytes = read step finished size state (lexes lexicon 0 place bytes)
+-- what is read from a state on, of bytes that stand at an offset of a text of that size
+unfoldable pub syntax_from : ℕ → State → ℕ → List ℕ → Result Syntax ℕ
+syntax_from size state at bytes = read step finished_query size state (lexes lexicon 0 at bytes)
 
 -- The grammar's machine over the text's tokens. The law of the function `grammar_is_exact` says what this is in the
 -- grammar's own words.
 unfoldable pub syntax_of : List ℕ → Result Syntax ℕ
-syntax_of text = read step finished (length text) Start (lexemes_of text)
+syntax_of text = read step finished_query (length text) Start (lexemes_of text)

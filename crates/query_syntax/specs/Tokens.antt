@@ -72,7 +72,7 @@ sign_at bytes = elim (operator_at bytes) [
   | None ↦ mark_at bytes
 ]
 
--- the token that bytes at a place begin with, and its length
+-- the token that bytes at an offset begin with, and its length
 abbrev pub token_at : ℕ → List ℕ → Option (Token × ℕ)
 token_at at [] = None
 token_at at (b ∷ bytes) =
@@ -84,7 +84,7 @@ token_at at (b ∷ bytes) =
 abbrev pub lexicon : Lexicon Token
 lexicon = record { is_blank = is_blank; token_at = token_at; junk = token.Junk }
 
--- The tokens of a text with their places. Blanks stand between tokens and after the last one: a text that begins
+-- The tokens of a text with their offsets. Blanks stand between tokens and after the last one: a text that begins
 -- with a blank is junk.
 abbrev pub lexemes_of : List ℕ → List (Lexeme Token)
 lexemes_of text = if begins_blank text then lexeme token.Junk 0 ∷ [] else lexes lexicon 0 0 text

@@ -1,4 +1,4 @@
-//! The law of the grammar: what is read is spelled so, and a refusal is the one place where the text goes wrong.
+//! The law of the grammar: what is read is spelled so, and a refusal is the one offset where the text goes wrong.
 
 ghost use Rattle.std.specs.Prelude.{false, ◌≡◌, ℕ, List, length, Some, None, Ok, Err};
 ghost use Rattle.text_reading.specs.Lexing.{AreTokensOf, tokens};
@@ -13,7 +13,7 @@ ghost use Rattle.query_syntax.specs.declared.machine.State.TheVariants.{Start};
 ghost use Rattle.query_syntax.specs.declared.syntax.Syntax.{Syntax as ASyntax};
 ghost use Rattle.query_syntax.specs.declared.token.Token.{Token as AToken};
 
-/// A text is read as a query exactly where its tokens spell that query with its places, and no tokens spell two.
+/// A text is read as a query exactly where its tokens spell that query with its offsets, and no tokens spell two.
 /// Any other text is refused at the first byte of the first token, or of the first bytes that are no token, that
 /// can't continue any query; or at its length where it ends too early. What the grammar's machine takes are exactly
 /// the tokens that can be continued to a query, by tokens that some bytes are. The tokens of a text stand in it one
@@ -26,8 +26,8 @@ pub fn grammar_is_exact()
         → syntax_of text ≡ Ok query }
     ensures unique { (ts : List AToken) (query other : ASyntax) → Spells ts query → Spells ts other
         → query ≡ other }
-    ensures exact { (text : List ℕ) (place : ℕ) → syntax_of text ≡ Err place
-        → BreaksAt (lexemes_of text) (length text) place }
+    ensures exact { (text : List ℕ) (at : ℕ) → syntax_of text ≡ Err at
+        → BreaksAt (lexemes_of text) (length text) at }
     ensures live { (ts : List AToken) (state : AState) → run step Start ts ≡ Some state → Viable ts }
     ensures dead { (ts : List AToken) → run step Start ts ≡ None → Viable ts → ⊥ }
 {}

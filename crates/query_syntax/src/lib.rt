@@ -11,4 +11,4 @@ mod token;
 
 pub use laws::grammar_is_exact;
 pub use reading::read_syntax;
-pub use syntax::{Part, PlacedTerm, Syntax, Word, Written, WrittenAtom, WrittenComparison};
+pub use syntax::{Part, WrittenTerm, Syntax, Word, NamedTerm, WrittenAtom, WrittenComparison};

@@ -1,10 +1,10 @@
 //! The grammar of queries as a machine that takes one token after the other.
 
 ghost use Rattle.std.specs.Prelude.{◌≡◌, IfOk};
-ghost use Rattle.query_syntax.specs.Machine.{comparison, constant, finished, step, variable, with_part, with_term, with_variable};
+ghost use Rattle.query_syntax.specs.Machine.{comparison_part, constant_term, finished_query, step, variable_term, with_part, with_term, with_variable};
 ghost use Rattle.query_syntax.specs.declared.machine.State.TheVariants.{Start, Named, HeadStart, HeadEnd, HeadClosed, PartStart, PartNamed, TermStart, TermEnd, Compared, PartEnd};
 
-use crate::syntax::{Part, PlacedTerm, Syntax, Word, Written, WrittenAtom, WrittenComparison};
+use crate::syntax::{Part, WrittenTerm, Syntax, Word, NamedTerm, WrittenAtom, WrittenComparison};
 use crate::token::Token;
 use med_prelude::Listed;
 use std::alloc::{AllocError, Global};
@@ -74,8 +74,8 @@ pub fn step(alloc: Global, state: State, token: Token) -> Result<Option<State>, 
 }
 
 /// The query, once its full stop was read.
-pub fn finished(state: State) -> Option<Syntax>
-    ensures { result ≡ finished state }
+pub fn finished_query(state: State) -> Option<Syntax>
+    ensures { result ≡ finished_query state }
 {
     match state {
         State::Done(syntax) => Some(syntax),
@@ -164,9 +164,9 @@ fn atom_term(body: Body, atom: WrittenAtom, token: Token) -> Result<Option<State
     ensures { IfOk result (λ next. next ≡ step (TermStart body atom) token) }
 {
     match token {
-        Token::Name(name) => Ok(Some(State::TermEnd(body, with_term(atom, variable(name))?))),
+        Token::Name(name) => Ok(Some(State::TermEnd(body, with_term(atom, variable_term(name))?))),
         Token::Constant(value, at) => {
-            let atom = with_term(atom, constant(value, at))?;
+            let atom = with_term(atom, constant_term(value, at))?;
             Ok(Some(State::TermEnd(body, atom)))
         }
         _ => Ok(None),
@@ -187,8 +187,8 @@ fn right_side(body: Body, left: Word, op: Op, token: Token) -> Result<Option<Sta
     ensures { IfOk result (λ next. next ≡ step (Compared body left op) token) }
 {
     match token {
-        Token::Name(name) => Ok(Some(compared(body, left, op, variable(name))?)),
-        Token::Constant(value, at) => Ok(Some(compared(body, left, op, constant(value, at))?)),
+        Token::Name(name) => Ok(Some(with_comparison(body, left, op, variable_term(name))?)),
+        Token::Constant(value, at) => Ok(Some(with_comparison(body, left, op, constant_term(value, at))?)),
         _ => Ok(None),
     }
 }
@@ -207,26 +207,26 @@ fn after_part(body: Body, token: Token) -> Option<State>
     }
 }
 
-fn variable(name: Word) -> PlacedTerm
-    ensures { result ≡ variable name }
+fn variable_term(name: Word) -> WrittenTerm
+    ensures { result ≡ variable_term name }
 {
-    PlacedTerm {
-        written: Written::Variable(name.name),
+    WrittenTerm {
+        written: NamedTerm::Variable(name.name),
         at: name.at,
     }
 }
 
-fn constant(value: Value, at: u64) -> PlacedTerm
-    ensures { result ≡ constant value at }
+fn constant_term(value: Value, at: u64) -> WrittenTerm
+    ensures { result ≡ constant_term value at }
 {
-    PlacedTerm {
-        written: Written::Constant(value),
+    WrittenTerm {
+        written: NamedTerm::Constant(value),
         at,
     }
 }
 
-fn compared(body: Body, left: Word, op: Op, right: PlacedTerm) -> Result<State, AllocError>
-    ensures { IfOk result (λ next. next ≡ PartEnd (with_part body (comparison left op right))) }
+fn with_comparison(body: Body, left: Word, op: Op, right: WrittenTerm) -> Result<State, AllocError>
+    ensures { IfOk result (λ next. next ≡ PartEnd (with_part body (comparison_part left op right))) }
 {
     let comparison = WrittenComparison { left, op, right };
     Ok(State::PartEnd(with_part(body, Part::Comparison(comparison))?))
@@ -240,7 +240,7 @@ fn with_variable(head: Head, variable: Word) -> Result<Head, AllocError>
     Ok(head)
 }
 
-fn with_term(atom: WrittenAtom, term: PlacedTerm) -> Result<WrittenAtom, AllocError>
+fn with_term(atom: WrittenAtom, term: WrittenTerm) -> Result<WrittenAtom, AllocError>
     ensures { IfOk result (λ longer. longer ≡ with_term atom term) }
 {
     let mut atom = atom;

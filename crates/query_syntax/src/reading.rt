@@ -2,17 +2,17 @@
 
 ghost use Rattle.std.specs.Prelude.{◌≡◌, length, IfOk};
 ghost use Rattle.med_prelude.specs.Reading.{Gives};
-ghost use Rattle.query_syntax.specs.Reading.{advance, read_from, syntax_of};
+ghost use Rattle.query_syntax.specs.Reading.{advance, syntax_from, syntax_of};
 ghost use Rattle.query_syntax.specs.declared.machine.State.TheVariants.{Start};
 
-use crate::machine::{State, finished, step};
+use crate::machine::{State, finished_query, step};
 use crate::syntax::Syntax;
 use crate::token::token_at;
 use med_prelude::ReadFault;
 use std::alloc::{AllocError, Global};
 use text_reading::{begins_blank, is_blank};
 
-/// Reads the parts of a query, or tells the place of the first token that can't continue any query, or the text's
+/// Reads the parts of a query, or tells the offset of the first token that can't continue any query, or the text's
 /// length where the text ends too early.
 pub fn read_syntax(alloc: Global, text: &[u8]) -> Result<Syntax, ReadFault<u64>>
     ensures { Gives result (syntax_of text.now) }
@@ -24,7 +24,7 @@ pub fn read_syntax(alloc: Global, text: &[u8]) -> Result<Syntax, ReadFault<u64>>
 }
 
 fn read_tokens(alloc: Global, text: &[u8]) -> Result<Syntax, ReadFault<u64>>
-    ensures { Gives result (read_from (length text.now) Start 0 text.now) }
+    ensures { Gives result (syntax_from (length text.now) Start 0 text.now) }
 {
     let mut state = State::Start;
     let mut rest = text;
@@ -46,13 +46,13 @@ fn read_tokens(alloc: Global, text: &[u8]) -> Result<Syntax, ReadFault<u64>>
             }
         }
     }
-    match finished(state) {
+    match finished_query(state) {
         Some(syntax) => Ok(syntax),
         None => Err(ReadFault::Broken(at)),
     }
 }
 
-/// The state after the token that bytes at a place begin with, and the token's length.
+/// The state after the token that bytes at an offset begin with, and the token's length.
 fn advance(
     alloc: Global,
     state: State,

@@ -1,4 +1,4 @@
-//! The parts of a query as they are written, each with the place of its first byte in the text.
+//! The parts of a query as they are written, each with the offset of its first byte in the text.
 
 use med_prelude::{Listed, Text};
 use tuple_core::{Op, Value};
@@ -10,17 +10,17 @@ pub struct Word {
     pub at: u64,
 }
 
-/// A term without its place: the name of a variable, or a constant.
+/// A term without its offset: the name of a variable, or a constant.
 #[derive(Debug, PartialEq, Eq, Drop)]
-pub enum Written {
+pub enum NamedTerm {
     Variable(Text),
     Constant(Value),
 }
 
 /// A term.
 #[derive(Debug, PartialEq, Eq, Drop)]
-pub struct PlacedTerm {
-    pub written: Written,
+pub struct WrittenTerm {
+    pub written: NamedTerm,
     pub at: u64,
 }
 
@@ -28,7 +28,7 @@ pub struct PlacedTerm {
 #[derive(Debug, Drop)]
 pub struct WrittenAtom {
     pub relation: Word,
-    pub terms: Listed<PlacedTerm>,
+    pub terms: Listed<WrittenTerm>,
 }
 
 /// A comparison: a variable's name, an operator and a term.
@@ -36,7 +36,7 @@ pub struct WrittenAtom {
 pub struct WrittenComparison {
     pub left: Word,
     pub op: Op,
-    pub right: PlacedTerm,
+    pub right: WrittenTerm,
 }
 
 /// A part of a query's body.

@@ -10,7 +10,7 @@ use std::alloc::{AllocError, Global};
 use text_reading::{begins_integer, integer_run, name_in, name_run, quoted};
 use tuple_core::{Kind, Op, Value, parse_value};
 
-/// A token. Names and constants have the place of their first byte.
+/// A token. Names and constants have the offset of their first byte.
 #[derive(Drop)]
 pub enum Token {
     Name(Word),
@@ -26,7 +26,7 @@ pub enum Token {
     Junk,
 }
 
-/// The token that bytes at a place begin with, and its length.
+/// The token that bytes at an offset begin with, and its length.
 pub fn token_at(alloc: Global, at: u64, bytes: &[u8]) -> Result<Option<(Token, usize)>, AllocError>
     ensures { IfOk result (λ read. read ≡ token_at at bytes.now) }
 {

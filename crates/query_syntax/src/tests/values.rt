@@ -1,6 +1,6 @@
 //! What is read of a query: its parts, their places and their values.
 
-use crate::{Part, PlacedTerm, Word, Written, read_syntax};
+use crate::{Part, WrittenTerm, Word, NamedTerm, read_syntax};
 use med_prelude::Text;
 use std::alloc::{AllocError, Global};
 use std::process::Abort;
@@ -12,17 +12,17 @@ fn word(alloc: Global, name: &str, at: u64) -> Result<Word, AllocError> {
     Ok(Word { name, at })
 }
 
-fn variable(alloc: Global, name: &str, at: u64) -> Result<PlacedTerm, AllocError> {
-    let written = Written::Variable(Text::from_str(alloc, name)?);
-    Ok(PlacedTerm { written, at })
+fn variable(alloc: Global, name: &str, at: u64) -> Result<WrittenTerm, AllocError> {
+    let written = NamedTerm::Variable(Text::from_str(alloc, name)?);
+    Ok(WrittenTerm { written, at })
 }
 
-fn constant(value: Value, at: u64) -> PlacedTerm {
-    let written = Written::Constant(value);
-    PlacedTerm { written, at }
+fn constant(value: Value, at: u64) -> WrittenTerm {
+    let written = NamedTerm::Constant(value);
+    WrittenTerm { written, at }
 }
 
-fn assert_atom(rt: &impl Abort, part: &Part, relation: &Word, terms: &[PlacedTerm]) {
+fn assert_atom(rt: &impl Abort, part: &Part, relation: &Word, terms: &[WrittenTerm]) {
     match part {
         Part::Atom(atom) => {
             assert_eq!(rt; &atom.relation, relation);
@@ -32,7 +32,7 @@ fn assert_atom(rt: &impl Abort, part: &Part, relation: &Word, terms: &[PlacedTer
     }
 }
 
-fn assert_comparison(rt: &impl Abort, part: &Part, left: &Word, op: Op, right: &PlacedTerm) {
+fn assert_comparison(rt: &impl Abort, part: &Part, left: &Word, op: Op, right: &WrittenTerm) {
     match part {
         Part::Atom(_) => panic!(rt; "an atom"),
         Part::Comparison(comparison) => {

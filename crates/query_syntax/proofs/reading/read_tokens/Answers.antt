@@ -5,7 +5,7 @@ use Rattle.query_syntax.proofs.reading.read_tokens.Goals as goal
 pub loop-first-preserved-then-is_blank : goal.loop-first-preserved-then-is_blank
 loop-first-preserved-then-is_blank c = record {
   same = keeps_blank _ _ _ _ _ _ _ c.in-Some.ensures.cases.0 c.if-is_blank.ensures c.loop-first.invariant.same;
-  place = omega (arith, c.loop-first.invariant.place, ap length c.in-Some.ensures.cases.0);
+  offset = omega (arith, c.loop-first.invariant.offset, ap length c.in-Some.ensures.cases.0);
 }
 
 pub returns-in-Ok-None : goal.returns-in-Ok-None
@@ -22,11 +22,11 @@ loop-first-smaller c =
 pub loop-first-preserved : goal.loop-first-preserved
 loop-first-preserved c = record {
   same = keeps_step _ _ _ _ _ _ _ _ _ _ _ c.in-Some.ensures.cases.0 c.if-is_blank.ensures c.in-Ok-Some.ensures c.in-Ok-Some.field-0-is c.split_at.ensures.back c.loop-first.invariant.same;
-  place = omega (arith, c.split_at.ensures.back_len, c.loop-first.invariant.place);
+  offset = omega (arith, c.split_at.ensures.back_len, c.loop-first.invariant.offset);
 }
 
-pub returns-in-Some-finished : goal.returns-in-Some-finished
-returns-in-Some-finished c = keeps_end _ _ _ _ _ _ c.in_default.ensures.cases c.loop-first.invariant.place c.in-Some-finished.ensures c.loop-first.invariant.same
+pub returns-in-Some-finished_query : goal.returns-in-Some-finished_query
+returns-in-Some-finished_query c = keeps_end _ _ _ _ _ _ c.in_default.ensures.cases c.loop-first.invariant.offset c.in-Some-finished_query.ensures c.loop-first.invariant.same
 
 pub returns-in-None : goal.returns-in-None
-returns-in-None c = keeps_end _ _ _ _ _ _ c.in_default.ensures.cases c.loop-first.invariant.place c.in-None.ensures c.loop-first.invariant.same
+returns-in-None c = keeps_end _ _ _ _ _ _ c.in_default.ensures.cases c.loop-first.invariant.offset c.in-None.ensures c.loop-first.invariant.same
