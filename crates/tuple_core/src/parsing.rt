@@ -101,7 +101,11 @@ pub fn parse_value(alloc: Global, kind: Kind, bytes: &[u8]) -> Result<Option<Val
 }
 
 /// The value that a field of a source has in the column; there may be none. Only for a text is memory taken.
-pub fn field_value(alloc: Global, column: &Column, field: &[u8]) -> Result<Option<Value>, AllocError>
+pub fn field_value(
+    alloc: Global,
+    column: &Column,
+    field: &[u8],
+) -> Result<Option<Value>, AllocError>
     ensures value { IfOk result (λ value. value ≡ field_value column.now field.now) }
     ensures fits { IfOk result (λ value. IfSome value FitsValue) }
     ensures no_memory { column.now.kind ≢ Kind.Text → IsOk result }

@@ -1,29 +1,63 @@
+//! What no clause says: expected texts, bytes and numbers by hand, and that each call gives an answer.
+
+ghost use Rattle.std.specs.Prelude.{IfOk};
+ghost use Rattle.tuple_core.specs.Values.{FitsValue};
+
 mod sorting;
 
 use super::*;
 use std::alloc::{AllocError, Global};
 use std::test::Fail;
 
-fn integer(alloc: Global, text: &str) -> Result<Option<i64>, AllocError> {
-    match parse_value(alloc, Kind::Int, text.as_bytes())? {
-        Some(Value::Int(number)) => Ok(Some(number)),
-        Some(_) | None => Ok(None),
+// Whole numbers and truth values stand for themselves, and every other field is a text.
+fn value_of(alloc: Global, field: &str) -> Result<Value, Fail>
+    ensures { IfOk result FitsValue }
+{
+    for kind in [Kind::Int, Kind::Bool] {
+        if let Some(value) = parse_value(alloc, kind, field.as_bytes())? {
+            return Ok(value);
+        }
     }
+    Ok(parse_value(alloc, Kind::Text, field.as_bytes())?.ok_or("no value")?)
+}
+
+// The row whose fields stand between bars.
+fn row_of(alloc: Global, line: &str) -> Result<Row, Fail> {
+    let mut values = Vec::new(alloc);
+    for field in line.split('|') {
+        if values.len() == Row::MOST_VALUES {
+            return Err(Fail::from("too many values"));
+        }
+        values.push(value_of(alloc, field)?)?;
+    }
+    Ok(Row::new(values))
 }
 
 #[test]
-fn reads_integers(rt: HostRuntime) -> Result<(), Fail> {
-    for (text, number) in [
-        ("0", 0),
-        ("-0", 0),
-        ("007", 7),
-        ("-007", -7),
-        ("9223372036854775807", i64::MAX),
-        ("-9223372036854775808", i64::MIN),
-        ("000000000000000000000000000000000001", 1),
+fn reads_and_writes_values(rt: HostRuntime) -> Result<(), Fail> {
+    for (kind, text, written) in [
+        (Kind::Int, "0", "0"),
+        (Kind::Int, "-0", "0"),
+        (Kind::Int, "007", "7"),
+        (Kind::Int, "-007", "-7"),
+        (Kind::Int, "9223372036854775807", "9223372036854775807"),
+        (Kind::Int, "-9223372036854775808", "-9223372036854775808"),
+        (Kind::Int, "000000000000000000000000000000000001", "1"),
+        (Kind::Bool, "true", "true"),
+        (Kind::Bool, "false", "false"),
+        (Kind::Text, "", ""),
+        (Kind::Text, "-0", "-0"),
     ] {
-        assert_eq!(rt; integer(rt.alloc(), text)?, Some(number), "{text}");
+        let value = parse_value(rt.alloc(), kind, text.as_bytes())?.ok_or("no value")?;
+        let mut bytes = Vec::new(rt.alloc());
+        text_of(&value.clone()?, &mut bytes)?;
+        assert_eq!(rt; bytes.as_slice(), written.as_bytes(), "{text}");
     }
+    Ok(())
+}
+
+#[test]
+fn reads_no_other_texts(rt: HostRuntime) -> Result<(), Fail> {
     for text in [
         "",
         "-",
@@ -37,107 +71,101 @@ fn reads_integers(rt: HostRuntime) -> Result<(), Fail> {
         "-9223372036854775809",
         "99999999999999999999",
     ] {
-        assert_eq!(rt; integer(rt.alloc(), text)?, None, "{text}");
+        assert!(rt;
+            parse_value(rt.alloc(), Kind::Int, text.as_bytes())?.is_none(),
+            "{text}"
+        );
     }
-    Ok(())
-}
-
-fn truth(alloc: Global, text: &str) -> Result<Option<bool>, AllocError> {
-    match parse_value(alloc, Kind::Bool, text.as_bytes())? {
-        Some(Value::Bool(truth)) => Ok(Some(truth)),
-        Some(_) | None => Ok(None),
-    }
-}
-
-#[test]
-fn reads_truth_values(rt: HostRuntime) -> Result<(), Fail> {
-    assert_eq!(rt; truth(rt.alloc(), "true")?, Some(true));
-    assert_eq!(rt; truth(rt.alloc(), "false")?, Some(false));
     for text in ["", "True", "true ", "0", "1"] {
-        assert_eq!(rt; truth(rt.alloc(), text)?, None, "{text}");
+        assert!(rt;
+            parse_value(rt.alloc(), Kind::Bool, text.as_bytes())?.is_none(),
+            "{text}"
+        );
+    }
+    assert!(rt; parse_value(rt.alloc(), Kind::Text, b"\xFF")?.is_none());
+    for (length, is_text) in [(65_536, true), (65_537, false)] {
+        let text = vec![in rt.alloc(); b'a'; length]?;
+        assert_eq!(rt;
+            parse_value(rt.alloc(), Kind::Text, text.as_slice())?.is_some(),
+            is_text
+        );
     }
     Ok(())
 }
 
 #[test]
-fn reads_texts_up_to_their_limit(rt: HostRuntime) -> Result<(), Fail> {
-    let longest = vec![in rt.alloc(); b'a'; 65_536]?;
-    assert!(rt; parse_value(rt.alloc(), Kind::Text, longest.as_slice())?.is_some());
-    let longer = vec![in rt.alloc(); b'a'; 65_537]?;
-    assert!(rt; parse_value(rt.alloc(), Kind::Text, longer.as_slice())?.is_none());
-    assert!(rt; parse_value(rt.alloc(), Kind::Text, b"")?.is_some());
-    assert!(rt; parse_value(rt.alloc(), Kind::Text, b"\xFF")?.is_none());
-    Ok(())
-}
-
-fn row_of_one(alloc: Global, kind: Kind, text: &str) -> Result<Row, Fail> {
-    let mut values = Vec::new(alloc);
-    let value = parse_value(alloc, kind, text.as_bytes())?.ok_or("no value")?;
-    values.push(value)?;
-    Ok(Row::new(values))
-}
-
-fn encoding_of(alloc: Global, row: &Row) -> Result<Vec<u8>, AllocError> {
-    let mut bytes = Vec::new(alloc);
-    encode(alloc, row, &mut bytes)?;
-    Ok(bytes)
+fn reads_numerals_up_to_their_most(rt: HostRuntime) {
+    for (digits, most, number) in [
+        ("0", 0, Some(0)),
+        ("007", 7, Some(7)),
+        ("008", 7, None),
+        ("", 7, None),
+        ("-0", 7, None),
+        ("+7", 7, None),
+        ("18446744073709551615", u64::MAX, Some(u64::MAX)),
+        ("18446744073709551616", u64::MAX, None),
+    ] {
+        assert_eq!(rt; numeral(digits.as_bytes(), most), number, "{digits}");
+    }
 }
 
 #[test]
-fn encodes_one_text(rt: HostRuntime) -> Result<(), Fail> {
-    let row = row_of_one(rt.alloc(), Kind::Text, "paris")?;
-    let bytes = encoding_of(rt.alloc(), &row)?;
-    assert_eq!(rt;
-        bytes.as_slice(),
-        b"\x01\x02\x00\x00\x00\x05paris".as_slice()
-    );
-    assert_eq!(rt; weight(&row), 11);
+fn copies_columns_and_reads_their_fields(rt: HostRuntime) -> Result<(), Fail> {
+    let mut columns = Columns::new(rt.alloc());
+    for (name, kind) in [("id", Kind::Int), ("name", Kind::Text)] {
+        let name = Text::from_str(rt.alloc(), name)?;
+        columns.push(Column { name, kind })?;
+    }
+    let copies = columns.clone()?;
+    assert_eq!(rt; copies.as_slice(), columns.as_slice());
+    for (column, has_value) in copies.as_slice().iter().zip([false, true]) {
+        assert_eq!(rt;
+            field_value(rt.alloc(), column, b"rome")?.is_some(),
+            has_value
+        );
+    }
+    Ok(())
+}
+
+// Each line's encoding, and its bucket among 16.
+const ENCODINGS: [(&str, &[u8], u32); 5] = [
+    ("1", b"\x01\x01\0\0\0\0\0\0\0\x01", 8),
+    ("-2", b"\x01\x01\xFF\xFF\xFF\xFF\xFF\xFF\xFF\xFE", 6),
+    ("paris", b"\x01\x02\0\0\0\x05paris", 14),
+    ("false", b"\x01\x03\0", 7),
+    (
+        "-2|paris|true",
+        b"\x03\x01\xFF\xFF\xFF\xFF\xFF\xFF\xFF\xFE\x02\0\0\0\x05paris\x03\x01",
+        6,
+    ),
+];
+
+#[test]
+fn encodes_rows_and_reads_them_back(rt: HostRuntime) -> Result<(), Fail> {
+    for (line, encoding, bucket) in ENCODINGS {
+        let row = row_of(rt.alloc(), line)?;
+        let mut bytes = Vec::from_slice(rt.alloc(), b"xy")?;
+        encode(rt.alloc(), &row, &mut bytes)?;
+        assert_eq!(rt; &bytes.as_slice()[2..], encoding, "{line}");
+        assert_eq!(rt; weight(&row), encoding.len() as u64, "{line}");
+        assert_eq!(rt; bucket_of(encoding, 16), bucket, "{line}");
+        bytes.extend_from_slice(b"z")?;
+        let (back, after) = decode(rt.alloc(), bytes.as_slice(), 2)?;
+        assert_eq!(rt; back, row.clone()?, "{line}");
+        assert_eq!(rt; after, 2 + encoding.len(), "{line}");
+    }
     Ok(())
 }
 
 #[test]
-fn encodes_one_integer(rt: HostRuntime) -> Result<(), Fail> {
-    let row = row_of_one(rt.alloc(), Kind::Int, "1")?;
-    let bytes = encoding_of(rt.alloc(), &row)?;
-    assert_eq!(rt; bytes.as_slice(), b"\x01\x01\0\0\0\0\0\0\0\x01".as_slice());
-    assert_eq!(rt; weight(&row), 10);
-    assert_eq!(rt; hash(bytes.as_slice()) % 16, 8);
-    let least = row_of_one(rt.alloc(), Kind::Int, "-2")?;
-    let bytes = encoding_of(rt.alloc(), &least)?;
-    assert_eq!(rt;
-        bytes.as_slice(),
-        b"\x01\x01\xFF\xFF\xFF\xFF\xFF\xFF\xFF\xFE".as_slice()
-    );
-    Ok(())
-}
-
-#[test]
-fn encodes_one_truth_value(rt: HostRuntime) -> Result<(), Fail> {
-    let row = row_of_one(rt.alloc(), Kind::Bool, "true")?;
-    let bytes = encoding_of(rt.alloc(), &row)?;
-    assert_eq!(rt; bytes.as_slice(), b"\x01\x03\x01".as_slice());
-    assert_eq!(rt; weight(&row), 3);
-    Ok(())
-}
-
-#[test]
-fn hashes_the_empty_key(rt: HostRuntime) -> Result<(), Fail> {
-    let row = Row::new(Vec::new(rt.alloc()));
-    let bytes = encoding_of(rt.alloc(), &row)?;
-    assert_eq!(rt; bytes.as_slice(), b"\0".as_slice());
-    assert_eq!(rt; hash(bytes.as_slice()), 217);
-    assert_eq!(rt; hash(bytes.as_slice()) % 16, 9);
+fn writes_the_key_of_no_values(rt: HostRuntime) -> Result<(), Fail> {
+    let mut room = KeyRoom::new(rt.alloc())?;
+    assert!(rt; room.capacity() >= 4_194_625);
+    room.write(&row_of(rt.alloc(), "1|paris")?, &[]);
+    assert_eq!(rt; room.as_slice(), b"\0".as_slice());
+    assert_eq!(rt; hash(room.as_slice()), 217);
+    assert_eq!(rt; bucket_of(room.as_slice(), 16), 9);
     assert_eq!(rt; hash(b""), 7);
-    Ok(())
-}
-
-#[test]
-fn encodes_behind_what_is_there(rt: HostRuntime) -> Result<(), Fail> {
-    let mut bytes = Vec::new(rt.alloc());
-    let row = row_of_one(rt.alloc(), Kind::Bool, "false")?;
-    encode(rt.alloc(), &row, &mut bytes)?;
-    encode(rt.alloc(), &row, &mut bytes)?;
-    assert_eq!(rt; bytes.as_slice(), b"\x01\x03\0\x01\x03\0".as_slice());
     Ok(())
 }
 
@@ -149,46 +177,42 @@ fn is_bad(alloc: Global, bytes: &[u8], at: usize) -> bool {
 }
 
 #[test]
-fn decodes_a_row_between_other_bytes(rt: HostRuntime) -> Result<(), Fail> {
-    let bytes = b"xy\x03\x01\xFF\xFF\xFF\xFF\xFF\xFF\xFF\xFE\x02\0\0\0\x05paris\x03\x01z";
-    let (row, after) = decode(rt.alloc(), bytes, 2)?;
-    assert_eq!(rt; after, 24);
-    match row.values() {
-        [Value::Int(number), Value::Text(text), Value::Bool(truth)] => {
-            assert_eq!(rt; *number, -2);
-            assert_eq!(rt; text.as_str(), "paris");
-            assert!(rt; *truth);
-        }
-        _ => return Err(Fail::from("other values")),
-    }
-    Ok(())
-}
-
-#[test]
 fn refuses_what_is_no_encoding(rt: HostRuntime) {
-    let alloc = rt.alloc();
-    assert!(rt; is_bad(alloc, b"", 0));
-    assert!(rt; is_bad(alloc, b"\0", 1));
-    assert!(rt; is_bad(alloc, b"\0", usize::MAX));
-    assert!(rt; is_bad(alloc, b"\x01\x04\0", 0), "a kind that there is not");
-    assert!(rt; is_bad(alloc, b"\x01\0", 0), "no kind");
-    assert!(rt; is_bad(alloc, b"\x01\x03\x02", 0), "neither false nor true");
-    assert!(rt; is_bad(alloc, b"\x01\x02\0\0\0\x01\xFF", 0), "not UTF-8");
-    assert!(rt;
-        is_bad(alloc, b"\x01\x02\0\0\0\x05pari", 0),
-        "cut in a text"
-    );
-    assert!(rt; is_bad(alloc, b"\x01\x02\0\0\0", 0), "cut in a length");
-    assert!(rt;
-        is_bad(alloc, b"\x01\x01\0\0\0\0\0\0\0", 0),
-        "cut in an integer"
-    );
-    assert!(rt; is_bad(alloc, b"\x02\x03\x01", 0), "a value is missing");
+    for (bytes, at, why) in [
+        (b"".as_slice(), 0, "no bytes"),
+        (b"\0", 1, "past the end"),
+        (b"\0", usize::MAX, "far past the end"),
+        (b"\x01\x04\0", 0, "a kind that there is not"),
+        (b"\x01\0", 0, "no kind"),
+        (b"\x01\x03\x02", 0, "neither false nor true"),
+        (b"\x01\x02\0\0\0\x01\xFF", 0, "not UTF-8"),
+        (b"\x01\x02\0\0\0\x05pari", 0, "cut in a text"),
+        (b"\x01\x02\0\0\0", 0, "cut in a length"),
+        (b"\x01\x01\0\0\0\0\0\0\0", 0, "cut in an integer"),
+        (b"\x02\x03\x01", 0, "a value is missing"),
+    ] {
+        assert!(rt; is_bad(rt.alloc(), bytes, at), "{why}");
+    }
+}
+
+// The encoding of a row of so many truth values.
+fn truths(alloc: Global, count: u8) -> Result<Vec<u8>, AllocError> {
+    let mut bytes = vec![in alloc; count]?;
+    for _ in 0..count {
+        bytes.extend_from_slice(b"\x03\x01")?;
+    }
+    Ok(bytes)
 }
 
 #[test]
-fn decodes_texts_up_to_their_limit(rt: HostRuntime) -> Result<(), Fail> {
+fn decodes_up_to_the_limits(rt: HostRuntime) -> Result<(), Fail> {
     let alloc = rt.alloc();
+    for count in [0, 64] {
+        let (row, after) = decode(alloc, truths(alloc, count)?.as_slice(), 0)?;
+        assert_eq!(rt; row.values().len(), usize::from(count));
+        assert_eq!(rt; after as u64, weight(&row));
+    }
+    assert!(rt; is_bad(alloc, truths(alloc, 65)?.as_slice(), 0));
     let letters = vec![in alloc; b'a'; 65_537]?;
     let mut longest = Vec::from_slice(alloc, b"\x01\x02\0\x01\0\0")?;
     longest.extend_from_slice(letters.as_slice())?;
@@ -201,56 +225,22 @@ fn decodes_texts_up_to_their_limit(rt: HostRuntime) -> Result<(), Fail> {
     Ok(())
 }
 
-fn decodes_truths(alloc: Global, count: u8) -> Result<bool, AllocError> {
-    let mut bytes = vec![in alloc; count]?;
-    for _ in 0..count {
-        bytes.extend_from_slice(b"\x03\x01")?;
+#[test]
+fn compares_values_of_one_kind(rt: HostRuntime) -> Result<(), Fail> {
+    for (op, x, y, wanted) in [
+        (Op::Lt, "2", "10", true),
+        (Op::Lt, "2", "2", false),
+        (Op::Le, "2", "2", true),
+        (Op::Ge, "2", "2", true),
+        (Op::Ne, "2", "10", true),
+        (Op::Gt, "true", "false", true),
+        (Op::Lt, "paris", "rome", true),
+        (Op::Eq, "rome", "rome", true),
+        (Op::Ne, "1", "true", false),
+        (Op::Lt, "1", "paris", false),
+    ] {
+        let (left, right) = (value_of(rt.alloc(), x)?, value_of(rt.alloc(), y)?);
+        assert_eq!(rt; compare(op, &left, &right), wanted, "{x} {y}");
     }
-    Ok(decode(alloc, bytes.as_slice(), 0).is_ok())
-}
-
-#[test]
-fn decodes_rows_of_at_most_64_values(rt: HostRuntime) -> Result<(), Fail> {
-    assert!(rt; decodes_truths(rt.alloc(), 0)?);
-    assert!(rt; decodes_truths(rt.alloc(), 64)?);
-    assert!(rt; !decodes_truths(rt.alloc(), 65)?);
-    Ok(())
-}
-
-#[test]
-fn compares_values_of_one_kind(rt: HostRuntime) {
-    let (two, ten) = (Value::Int(2), Value::Int(10));
-    assert!(rt; compare(Op::Lt, &two, &ten));
-    assert!(rt; compare(Op::Le, &two, &two));
-    assert!(rt; compare(Op::Ge, &two, &two));
-    assert!(rt; !compare(Op::Lt, &two, &two));
-    assert!(rt; compare(Op::Ne, &two, &ten));
-    assert!(rt; compare(Op::Gt, &Value::Bool(true), &Value::Bool(false)));
-}
-
-#[test]
-fn compares_texts_by_their_bytes(rt: HostRuntime) -> Result<(), Fail> {
-    let paris = Value::Text(Text::from_str(rt.alloc(), "paris")?);
-    let rome = Value::Text(Text::from_str(rt.alloc(), "rome")?);
-    assert!(rt; compare(Op::Lt, &paris, &rome));
-    assert!(rt; compare(Op::Eq, &rome, &rome));
-    Ok(())
-}
-
-#[test]
-fn compares_no_values_of_two_kinds(rt: HostRuntime) {
-    for op in [Op::Eq, Op::Ne, Op::Lt, Op::Le, Op::Gt, Op::Ge] {
-        assert!(rt; !compare(op, &Value::Int(1), &Value::Bool(true)));
-    }
-}
-
-#[test]
-fn orders_texts_by_their_bytes(rt: HostRuntime) -> Result<(), Fail> {
-    let rome = row_of_one(rt.alloc(), Kind::Text, "rome")?;
-    let paris = row_of_one(rt.alloc(), Kind::Text, "paris")?;
-    assert!(rt; row_order(&paris, &rome).is_lt());
-    assert!(rt; row_order(&rome, &rome).is_eq());
-    let number = row_of_one(rt.alloc(), Kind::Int, "9")?;
-    assert!(rt; row_order(&number, &paris).is_lt());
     Ok(())
 }

@@ -1,223 +1,93 @@
-//! Rows in their order, each once, against a plain program.
+//! Rows in their order, each once, against lists by hand and a plain program.
 
-use super::row_of_one;
-use crate::{Kind, Row, parse_value, row_order, sorted_distinct};
+use super::row_of;
+use crate::{Row, row_order, sorted_distinct};
 use std::alloc::{AllocError, Global};
 use std::test::Fail;
 
-fn row_of_two(alloc: Global, first: (Kind, &str), second: (Kind, &str)) -> Result<Row, Fail> {
-    let mut values = Vec::new(alloc);
-    values.push(parse_value(alloc, first.0, first.1.as_bytes())?.ok_or("no value")?)?;
-    values.push(parse_value(alloc, second.0, second.1.as_bytes())?.ok_or("no value")?)?;
-    Ok(Row::new(values))
-}
-
-fn integers(alloc: Global, texts: &[&str]) -> Result<Vec<Row>, Fail> {
+// A row of each line.
+fn rows(alloc: Global, lines: &str) -> Result<Vec<Row>, Fail> {
     let mut rows = Vec::new(alloc);
-    for text in texts {
-        rows.push(row_of_one(alloc, Kind::Int, text)?)?;
+    for line in lines.lines() {
+        rows.push(row_of(alloc, line)?)?;
     }
     Ok(rows)
 }
 
-fn texts(alloc: Global, texts: &[&str]) -> Result<Vec<Row>, Fail> {
-    let mut rows = Vec::new(alloc);
-    for text in texts {
-        rows.push(row_of_one(alloc, Kind::Text, text)?)?;
+// Lists of rows, and the same in order.
+const LISTS: [(&str, &str); 3] = [
+    (
+        "10\n-3\n9223372036854775807\n0\n9\n-10\n-9223372036854775808\n10\n-1",
+        "-9223372036854775808\n-10\n-3\n-1\n0\n9\n10\n9223372036854775807",
+    ),
+    (
+        "b\nab\n\nabcdefghijklmnopr\na\nabcdefghijklmnopq\né\nb\nabcdefghijklmnop\n10a\n9a\nabcdefghijklmnopq\n\n",
+        "\n10a\n9a\na\nab\nabcdefghijklmnop\nabcdefghijklmnopq\nabcdefghijklmnopr\nb\né",
+    ),
+    (
+        "true\na|b\nab\na|-1\na\nfalse\n2|true\na|-1\n2\n2|false",
+        "2\n2|false\n2|true\na\na|-1\na|b\nab\nfalse\ntrue",
+    ),
+];
+
+#[test]
+fn sorts_rows(rt: HostRuntime) -> Result<(), Fail> {
+    for (lines, wanted) in LISTS {
+        let sorted = sorted_distinct(rows(rt.alloc(), lines)?)?;
+        assert_eq!(rt; sorted, rows(rt.alloc(), wanted)?);
     }
-    Ok(rows)
+    Ok(())
 }
 
-fn put_in_place(sorted: &mut Vec<Row>, row: Row) -> Result<(), AllocError> {
+fn put_in_order(sorted: &mut Vec<Row>, row: Row) -> Result<(), AllocError> {
     match sorted
         .iter()
         .position(|other| row_order(other, &row).is_ge())
     {
         None => sorted.push(row)?,
-        Some(at) => {
-            if row_order(&sorted[at], &row).is_gt() {
-                sorted.insert(at, row)?;
+        Some(index) => {
+            if row_order(&sorted[index], &row).is_gt() {
+                sorted.insert(index, row)?;
             }
         }
     }
     Ok(())
 }
 
-fn sorted_slowly(alloc: Global, rows: Vec<Row>) -> Result<Vec<Row>, AllocError> {
-    let mut sorted = Vec::new(alloc);
-    for row in rows {
-        put_in_place(&mut sorted, row)?;
-    }
-    Ok(sorted)
-}
-
-#[test]
-fn sorts_integers_by_value(rt: HostRuntime) -> Result<(), Fail> {
-    let rows = integers(
-        rt.alloc(),
-        &[
-            "10",
-            "-3",
-            "9223372036854775807",
-            "0",
-            "9",
-            "-10",
-            "-9223372036854775808",
-            "10",
-            "-1",
-        ],
-    )?;
-    let wanted = integers(
-        rt.alloc(),
-        &[
-            "-9223372036854775808",
-            "-10",
-            "-3",
-            "-1",
-            "0",
-            "9",
-            "10",
-            "9223372036854775807",
-        ],
-    )?;
-    assert_eq!(rt; sorted_distinct(rows)?, wanted);
-    Ok(())
-}
-
-#[test]
-fn sorts_texts_by_their_bytes_however_long(rt: HostRuntime) -> Result<(), Fail> {
-    let rows = texts(
-        rt.alloc(),
-        &[
-            "b",
-            "ab",
-            "",
-            "abcdefghijklmnopr",
-            "a",
-            "abcdefghijklmnopq",
-            "é",
-            "b",
-            "abcdefghijklmnop",
-            "10",
-            "9",
-            "abcdefghijklmnopq",
-            "",
-        ],
-    )?;
-    let wanted = texts(
-        rt.alloc(),
-        &[
-            "",
-            "10",
-            "9",
-            "a",
-            "ab",
-            "abcdefghijklmnop",
-            "abcdefghijklmnopq",
-            "abcdefghijklmnopr",
-            "b",
-            "é",
-        ],
-    )?;
-    assert_eq!(rt; sorted_distinct(rows)?, wanted);
-    Ok(())
-}
-
-#[test]
-fn sorts_rows_of_several_kinds(rt: HostRuntime) -> Result<(), Fail> {
-    let alloc = rt.alloc();
-    let mut rows = Vec::new(alloc);
-    rows.push(row_of_one(alloc, Kind::Bool, "true")?)?;
-    rows.push(row_of_two(alloc, (Kind::Text, "a"), (Kind::Text, "b"))?)?;
-    rows.push(row_of_one(alloc, Kind::Text, "ab")?)?;
-    rows.push(row_of_two(alloc, (Kind::Text, "a"), (Kind::Int, "-1"))?)?;
-    rows.push(row_of_one(alloc, Kind::Text, "a")?)?;
-    rows.push(row_of_one(alloc, Kind::Bool, "false")?)?;
-    rows.push(Row::new(Vec::new(alloc)))?;
-    rows.push(row_of_two(alloc, (Kind::Int, "2"), (Kind::Bool, "true"))?)?;
-    rows.push(row_of_two(alloc, (Kind::Text, "a"), (Kind::Int, "-1"))?)?;
-    rows.push(row_of_one(alloc, Kind::Int, "2")?)?;
-    rows.push(row_of_two(alloc, (Kind::Int, "2"), (Kind::Bool, "false"))?)?;
-    let mut wanted = Vec::new(alloc);
-    wanted.push(Row::new(Vec::new(alloc)))?;
-    wanted.push(row_of_one(alloc, Kind::Int, "2")?)?;
-    wanted.push(row_of_two(alloc, (Kind::Int, "2"), (Kind::Bool, "false"))?)?;
-    wanted.push(row_of_two(alloc, (Kind::Int, "2"), (Kind::Bool, "true"))?)?;
-    wanted.push(row_of_one(alloc, Kind::Text, "a")?)?;
-    wanted.push(row_of_two(alloc, (Kind::Text, "a"), (Kind::Int, "-1"))?)?;
-    wanted.push(row_of_two(alloc, (Kind::Text, "a"), (Kind::Text, "b"))?)?;
-    wanted.push(row_of_one(alloc, Kind::Text, "ab")?)?;
-    wanted.push(row_of_one(alloc, Kind::Bool, "false")?)?;
-    wanted.push(row_of_one(alloc, Kind::Bool, "true")?)?;
-    assert_eq!(rt; sorted_distinct(rows)?, wanted);
-    Ok(())
-}
-
-// One of few texts, some of which share their first 16 bytes.
-fn some_text(number: u64) -> &'static str {
-    match number % 7 {
-        0 => "",
-        1 => "a",
-        2 => "ab",
-        3 => "abcdefghijklmnop",
-        4 => "abcdefghijklmnopq",
-        5 => "abcdefghijklmnopqr",
-        _ => "b",
-    }
-}
-
-fn some_number(number: u64) -> &'static str {
-    match number % 6 {
-        0 => "-9223372036854775808",
-        1 => "-10",
-        2 => "-9",
-        3 => "0",
-        4 => "9",
-        _ => "10",
-    }
-}
-
-fn some_row(alloc: Global, number: u64) -> Result<Row, Fail> {
-    let text = (Kind::Text, some_text(number / 8));
-    let integer = (Kind::Int, some_number(number / 64));
-    let truth = (
-        Kind::Bool,
-        if number / 512 % 2 == 0 {
-            "false"
-        } else {
-            "true"
-        },
-    );
-    match number % 5 {
-        0 => row_of_two(alloc, text, integer),
-        1 => row_of_two(alloc, integer, text),
-        2 => row_of_two(alloc, text, truth),
-        3 => row_of_one(alloc, text.0, text.1),
-        _ => row_of_two(alloc, truth, text),
-    }
-}
-
-fn some_rows(alloc: Global, count: u64) -> Result<Vec<Row>, Fail> {
-    let mut rows = Vec::new(alloc);
-    let mut number = 1u64;
-    for _ in 0..count {
-        number = number
-            .wrapping_mul(6_364_136_223_846_793_005)
-            .wrapping_add(1_442_695_040_888_963_407);
-        rows.push(some_row(alloc, number >> 33)?)?;
-    }
-    Ok(rows)
-}
+// Some of which share their first 16 bytes.
+const SOME: [&str; 16] = [
+    "",
+    "a",
+    "ab",
+    "abcdefghijklmnop",
+    "abcdefghijklmnopq",
+    "abcdefghijklmnopqr",
+    "b|-9223372036854775808",
+    "b|-10",
+    "b|-9|true",
+    "0|a",
+    "9|a",
+    "10|ab",
+    "10|abcdefghijklmnopq",
+    "true|a",
+    "false|ab",
+    "a|false",
+];
 
 #[test]
 fn sorts_as_the_plain_program_does(rt: HostRuntime) -> Result<(), Fail> {
-    for count in [0, 1, 2, 19, 40, 300] {
-        let wanted = sorted_slowly(rt.alloc(), some_rows(rt.alloc(), count)?)?;
-        assert_eq!(rt;
-            sorted_distinct(some_rows(rt.alloc(), count)?)?,
-            wanted,
-            "{count} rows"
-        );
+    for count in [0, 1, 2, 19, 300] {
+        let (mut rows, mut sorted) = (Vec::new(rt.alloc()), Vec::new(rt.alloc()));
+        let mut number = 1u64;
+        for _ in 0..count {
+            number = number
+                .wrapping_mul(6_364_136_223_846_793_005)
+                .wrapping_add(1_442_695_040_888_963_407);
+            let row = row_of(rt.alloc(), SOME[(number >> 60) as usize])?;
+            put_in_order(&mut sorted, row.clone()?)?;
+            rows.push(row)?;
+        }
+        assert_eq!(rt; sorted_distinct(rows)?, sorted, "{count} rows");
     }
     Ok(())
 }
