@@ -1,4 +1,10 @@
-//! The texts that a run gives out, and how they are written to a sink.
+//! The text of an answer, and how it is written to a sink.
+//!
+//! - [`write_rows`] is the one call: it makes the text of the rows, a line of CSV for each, and writes it to a sink, as
+//!   many bytes at a time as the sink takes. Its contract says what was written at each answer.
+//!
+//! What the text of rows is stands in `specs/RowText.antt` of `tuple_core` (`rows_text`). What was written of a text, and
+//! what is left, is in `specs/Writing.antt` here.
 #![tactic(auto)]
 
 mod output;

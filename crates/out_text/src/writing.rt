@@ -19,8 +19,6 @@ pub fn write_rows<W: Sink>(alloc: Global, rows: &Rows, out: &mut W) -> Result<()
     ensures faults { W.faults out.old ≤ W.faults out.new }
     ensures failed { IfFailed result (Rose (W.faults out.old) (W.faults out.new)) }
 {
-    match text_of_rows(alloc, rows.as_slice()) {
-        Ok(text) => write_all(alloc, out, text.as_slice()),
-        Err(_) => Err(SinkFault::NoMemory),
-    }
+    let text = text_of_rows(alloc, rows.as_slice())?;
+    write_all(alloc, out, text.as_slice())
 }

@@ -19,25 +19,25 @@ use Rattle.tuple_core.specs.Values.{FitsRow, FitsValue, RowValues, longest_text,
 use Rattle.tuple_core.specs.declared.value.Value.{Value}
 use Rattle.tuple_core.specs.declared.value.Value.TheVariants as value
 
-dropped : (n : ℕ) (bytes : List ℕ) → AreBytes bytes → AreBytes (drop n bytes)
-dropped n bytes h = record { small = λ i. rw (get_or-drop n bytes i 0) (h.small (n + i)) }
+AreBytes-drop : (n : ℕ) (bytes : List ℕ) → AreBytes bytes → AreBytes (drop n bytes)
+AreBytes-drop n bytes h = record { small = λ i. rw (get_or-drop n bytes i 0) (h.small (n + i)) }
 
-taken : (n : ℕ) (bytes : List ℕ) → AreBytes bytes → AreBytes (take n bytes)
-taken n bytes h = record { small = small }
+AreBytes-take : (n : ℕ) (bytes : List ℕ) → AreBytes bytes → AreBytes (take n bytes)
+AreBytes-take n bytes h = record { small = small }
   where
     small : (i : ℕ) → get_or (take n bytes) i 0 < 256
     small i = elim (cases_lt i n) [ inl below ↦ rw (get_or-take n bytes i 0 below) (h.small i) | inr above ↦ rw (get_or_past (take n bytes) i 0 (omega (arith, length-take n bytes))) (lit< tt) ]
 
-tail : (b : ℕ) (bytes : List ℕ) → AreBytes (b ∷ bytes) → AreBytes bytes
-tail b bytes h = dropped 1 (b ∷ bytes) h
+AreBytes-tail : (b : ℕ) (bytes : List ℕ) → AreBytes (b ∷ bytes) → AreBytes bytes
+AreBytes-tail b bytes h = AreBytes-drop 1 (b ∷ bytes) h
 
 if_then : {X : Type 0} (o : Option X) {Y : Type 0} (f : X → Option Y) (P : Y → Type 0) → IfSome o (λ x. IfSome (f x) P) → IfSome (o >>= f) P
 if_then None f P h = tt
 if_then (Some x) f P h = h
 
-implied : {X : Type 0} (o : Option X) (P Q : X → Type 0) → IfSome o P → ((x : X) → P x → Q x) → IfSome o Q
-implied None P Q h f = tt
-implied (Some x) P Q h f = f x h
+IfSome-implied : {X : Type 0} (o : Option X) (P Q : X → Type 0) → IfSome o P → ((x : X) → P x → Q x) → IfSome o Q
+IfSome-implied None P Q h f = tt
+IfSome-implied (Some x) P Q h f = f x h
 
 if_test : {X : Type 0} (b : Bool) (o : Option X) (P : X → Type 0) → (b ≡ true → IfSome o P) → IfSome (if b then o else None) P
 if_test true o P h = h refl
@@ -47,9 +47,9 @@ if_either : {X : Type 0} (b : Bool) (o p : Option X) (P : X → Type 0) → (b �
 if_either true o p P h g = h refl
 if_either false o p P h g = g
 
-mapped : {X Y : Type 0} (o : Option X) (f : X → Y) (P : Y → Type 0) → IfSome o (λ x. P (f x)) → IfSome (option_map f o) P
-mapped None f P h = tt
-mapped (Some x) f P h = h
+IfSome-map : {X Y : Type 0} (o : Option X) (f : X → Y) (P : Y → Type 0) → IfSome o (λ x. P (f x)) → IfSome (option_map f o) P
+IfSome-map None f P h = tt
+IfSome-map (Some x) f P h = h
 
 le_holds : (m n : ℕ) → nat_le m n ≡ true → m ≤ n
 le_holds m n h = grind (arith, nat_tests)
@@ -65,8 +65,8 @@ unfolding front_and_rest
 front_sound count bytes h = if_test (nat_le count (length bytes)) _ _ (λ e. record {
   whole = sym (take-append-drop count bytes);
   long = length-take-le count bytes (le_holds _ _ e);
-  front = taken count bytes h;
-  rest = dropped count bytes h;
+  front = AreBytes-take count bytes h;
+  rest = AreBytes-drop count bytes h;
 })
 
 -- a part that is read, what it stands for, and the bytes after it
@@ -94,7 +94,7 @@ integer_read bytes x front = record {
 integer_sound : (bytes : List ℕ) → AreBytes bytes
     → IfSome (integer_and_rest bytes) (IsRead (FitsSigned w64) (λ z. to_be_bytes w64 (cast_unsigned w64 z)) bytes)
 unfolding integer_and_rest
-integer_sound bytes h = if_then (front_and_rest 8 bytes) _ _ (implied (front_and_rest 8 bytes) (IsFront 8 bytes) _ (front_sound 8 bytes h) (integer_read bytes))
+integer_sound bytes h = if_then (front_and_rest 8 bytes) _ _ (IfSome-implied (front_and_rest 8 bytes) (IsFront 8 bytes) _ (front_sound 8 bytes h) (integer_read bytes))
 
 abbrev IsShort : List ℕ → Type 0
 IsShort text = length text ≤ longest_text
@@ -115,32 +115,32 @@ text_read bytes x y size short front = record {
 
 text_bytes_sound : (bytes : List ℕ) → AreBytes bytes → IfSome (text_bytes_and_rest bytes) (IsRead IsShort behind_length bytes)
 unfolding text_bytes_and_rest
-text_bytes_sound bytes h = if_then (front_and_rest 4 bytes) _ _ (implied (front_and_rest 4 bytes) (IsFront 4 bytes) _ (front_sound 4 bytes h) (λ x size.
+text_bytes_sound bytes h = if_then (front_and_rest 4 bytes) _ _ (IfSome-implied (front_and_rest 4 bytes) (IsFront 4 bytes) _ (front_sound 4 bytes h) (λ x size.
     if_test (nat_le (from_be_bytes w32 x.0) longest_text) _ _ (λ e.
-    implied (front_and_rest (from_be_bytes w32 x.0) x.1) (IsFront (from_be_bytes w32 x.0) x.1) _ (front_sound (from_be_bytes w32 x.0) x.1 size.rest) (λ y. text_read bytes x y size (le_holds _ _ e)))))
+    IfSome-implied (front_and_rest (from_be_bytes w32 x.0) x.1) (IsFront (from_be_bytes w32 x.0) x.1) _ (front_sound (from_be_bytes w32 x.0) x.1 size.rest) (λ y. text_read bytes x y size (le_holds _ _ e)))))
 
 text_sound : (bytes : List ℕ) → AreBytes bytes → IfSome (text_and_rest bytes) (IsRead (λ text. FitsValue (value.Text text)) behind_length bytes)
 unfolding text_and_rest
-text_sound bytes h = if_then (text_bytes_and_rest bytes) _ _ (implied (text_bytes_and_rest bytes) (IsRead IsShort behind_length bytes) _ (text_bytes_sound bytes h) (λ x read.
+text_sound bytes h = if_then (text_bytes_and_rest bytes) _ _ (IfSome-implied (text_bytes_and_rest bytes) (IsRead IsShort behind_length bytes) _ (text_bytes_sound bytes h) (λ x read.
     if_test (is_utf8 x.0) _ _ (λ e. record { whole = read.whole; fits = (e, read.fits); rest = read.rest })))
 
 truth_sound : (bytes : List ℕ) → AreBytes bytes → IfSome (truth_and_rest bytes) (IsRead (λ b. Unit {0}) (λ b. from_bool b ∷ []) bytes)
 unfolding truth_and_rest
 truth_sound [] h = tt
 truth_sound (b ∷ bytes) h =
-    if_either (b == 0) _ _ _ (λ e. record { whole = ap (λ n. n ∷ bytes) ((Decides-eqb b 0).0 e); fits = tt; rest = tail b bytes h })
-    (if_test (b == 1) _ _ (λ e. record { whole = ap (λ n. n ∷ bytes) ((Decides-eqb b 1).0 e); fits = tt; rest = tail b bytes h }))
+    if_either (b == 0) _ _ _ (λ e. record { whole = ap (λ n. n ∷ bytes) ((Decides-eqb b 0).0 e); fits = tt; rest = AreBytes-tail b bytes h })
+    (if_test (b == 1) _ _ (λ e. record { whole = ap (λ n. n ∷ bytes) ((Decides-eqb b 1).0 e); fits = tt; rest = AreBytes-tail b bytes h }))
 
 value_sound : (bytes : List ℕ) → AreBytes bytes → IfSome (value_and_rest bytes) (IsRead FitsValue value_encoding bytes)
 unfolding value_and_rest
 value_sound [] h = tt
 value_sound (kind ∷ bytes) h =
-    let rest = tail kind bytes h in
-    if_either (kind == 1) _ _ _ (λ e. mapped (integer_and_rest bytes) _ _ (implied (integer_and_rest bytes) _ _ (integer_sound bytes rest) (λ x read.
+    let rest = AreBytes-tail kind bytes h in
+    if_either (kind == 1) _ _ _ (λ e. IfSome-map (integer_and_rest bytes) _ _ (IfSome-implied (integer_and_rest bytes) _ _ (integer_sound bytes rest) (λ x read.
     record { whole = ap (λ n. n ∷ bytes) ((Decides-eqb kind 1).0 e) ∙ ap (λ bs. 1 ∷ bs) read.whole; fits = read.fits; rest = read.rest })))
-    (if_either (kind == 2) _ _ _ (λ e. mapped (text_and_rest bytes) _ _ (implied (text_and_rest bytes) _ _ (text_sound bytes rest) (λ x read.
+    (if_either (kind == 2) _ _ _ (λ e. IfSome-map (text_and_rest bytes) _ _ (IfSome-implied (text_and_rest bytes) _ _ (text_sound bytes rest) (λ x read.
     record { whole = ap (λ n. n ∷ bytes) ((Decides-eqb kind 2).0 e) ∙ ap (λ bs. 2 ∷ bs) read.whole; fits = read.fits; rest = read.rest })))
-    (if_test (kind == 3) _ _ (λ e. mapped (truth_and_rest bytes) _ _ (implied (truth_and_rest bytes) _ _ (truth_sound bytes rest) (λ x read.
+    (if_test (kind == 3) _ _ (λ e. IfSome-map (truth_and_rest bytes) _ _ (IfSome-implied (truth_and_rest bytes) _ _ (truth_sound bytes rest) (λ x read.
     record { whole = ap (λ n. n ∷ bytes) ((Decides-eqb kind 3).0 e) ∙ ap (λ bs. 3 ∷ bs) read.whole; fits = read.fits; rest = read.rest })))))
 
 record AreRead (count : ℕ) (bytes : List ℕ) (x : List Value × List ℕ) : Type 0 where
@@ -153,8 +153,8 @@ values_sound : (count : ℕ) (bytes : List ℕ) → AreBytes bytes → IfSome (v
 unfolding values_and_rest
 values_sound zero bytes h = record { whole = refl; long = refl; fits = tt; rest = h }
 values_sound (suc count) bytes h =
-    if_then (value_and_rest bytes) _ _ (implied (value_and_rest bytes) (IsRead FitsValue value_encoding bytes) _ (value_sound bytes h) (λ first read.
-    if_then (values_and_rest count first.1) _ _ (implied (values_and_rest count first.1) (AreRead count first.1) _ (values_sound count first.1 read.rest) (λ more are. record {
+    if_then (value_and_rest bytes) _ _ (IfSome-implied (value_and_rest bytes) (IsRead FitsValue value_encoding bytes) _ (value_sound bytes h) (λ first read.
+    if_then (values_and_rest count first.1) _ _ (IfSome-implied (values_and_rest count first.1) (AreRead count first.1) _ (values_sound count first.1 read.rest) (λ more are. record {
       whole = read.whole ∙ ap (λ bs. value_encoding first.0 ++ bs) are.whole ∙ sym (append_assoc (value_encoding first.0) (flat_map value_encoding more.0) more.1);
       long = ap suc are.long;
       fits = (read.fits, are.fits);
@@ -166,13 +166,13 @@ pub values_fit : (whole : List ℕ) (count : ℕ) (bytes : List ℕ) (x : List V
     → whole ≡ count ∷ bytes → count ≤ most_values → Some x ≡ values_and_rest count bytes → FitsRow x.0
 values_fit whole count bytes x h e short read =
     let small : AreBytes (count ∷ bytes) = subst AreBytes e (record { small = λ i. (h i).fits }) in
-    let are : IfSome (Some x) (AreRead count bytes) = subst (λ o. IfSome o (AreRead count bytes)) (sym read) (values_sound count bytes (tail count bytes small)) in
+    let are : IfSome (Some x) (AreRead count bytes) = subst (λ o. IfSome o (AreRead count bytes)) (sym read) (values_sound count bytes (AreBytes-tail count bytes small)) in
     record { short = omega (arith, are.long); each = are.fits }
 
 row_sound : (bytes : List ℕ) → AreBytes bytes → IfSome (row_and_rest bytes) (IsRead FitsRow row_encoding bytes)
 unfolding row_and_rest
 row_sound [] h = tt
-row_sound (count ∷ bytes) h = if_test (nat_le count most_values) _ _ (λ e. implied (values_and_rest count bytes) (AreRead count bytes) _ (values_sound count bytes (tail count bytes h)) (λ x are. record {
+row_sound (count ∷ bytes) h = if_test (nat_le count most_values) _ _ (λ e. IfSome-implied (values_and_rest count bytes) (AreRead count bytes) _ (values_sound count bytes (AreBytes-tail count bytes h)) (λ x are. record {
   whole = ap (λ n. n ∷ bytes) (sym are.long) ∙ ap (λ bs. length x.0 ∷ bs) are.whole;
   fits = record { short = omega (arith, are.long, le_holds _ _ e); each = are.fits };
   rest = are.rest;
@@ -181,7 +181,7 @@ row_sound (count ∷ bytes) h = if_test (nat_le count most_values) _ _ (λ e. im
 read_at : (whole : List ℕ) (at : ℕ) (x : List Value × List ℕ) → ((i : ℕ) → Fits w8 (get_or whole i 0)) → Some x ≡ row_and_rest (drop at whole)
     → IsRead FitsRow row_encoding (drop at whole) x
 read_at whole at x h read =
-    let sound = row_sound (drop at whole) (dropped at whole (record { small = λ i. (h i).fits })) in
+    let sound = row_sound (drop at whole) (AreBytes-drop at whole (record { small = λ i. (h i).fits })) in
     let there : IfSome (Some x) (IsRead FitsRow row_encoding (drop at whole)) = subst (λ o. IfSome o (IsRead FitsRow row_encoding (drop at whole))) (sym read) sound in
     there
 
@@ -218,6 +218,6 @@ read_from bytes x read = record {
 pub row_at_read : (bytes : Bytes) (row : RowValues) (count : ℕ) → AreBytes bytes → row_at bytes ≡ Some (row, count) → IsReadFrom bytes (row, count)
 row_at_read bytes row count h read =
     let sound : IfSome (row_at bytes) (IsReadFrom bytes) =
-    mapped (row_and_rest bytes) _ _ (implied (row_and_rest bytes) (IsRead FitsRow row_encoding bytes) _ (row_sound bytes h) (read_from bytes)) in
+    IfSome-map (row_and_rest bytes) _ _ (IfSome-implied (row_and_rest bytes) (IsRead FitsRow row_encoding bytes) _ (row_sound bytes h) (read_from bytes)) in
     let there : IfSome (Some (row, count)) (IsReadFrom bytes) = subst (λ o. IfSome o (IsReadFrom bytes)) read sound in
     there

@@ -13,28 +13,28 @@ after_front front (Some x) = Some (front ++ x.0, x.1)
 abbrev then_more : Option (Value × List ℕ) → ℕ → Option (List Value × List ℕ)
 then_more first count = first >>= λ v. values_and_rest count v.1 >>= λ more. Some (v.0 ∷ more.0, more.1)
 
-turn : (count i : ℕ) (bytes : List ℕ) → i < count → values_and_rest (count - i) bytes ≡ then_more (value_and_rest bytes) (count - (i + 1))
+values_and_rest-next : (count i : ℕ) (bytes : List ℕ) → i < count → values_and_rest (count - i) bytes ≡ then_more (value_and_rest bytes) (count - (i + 1))
 unfolding values_and_rest
-turn count i bytes inside = let e : count - i ≡ suc (count - (i + 1)) = omega arith in rw e refl
+values_and_rest-next count i bytes inside = let e : count - i ≡ suc (count - (i + 1)) = omega arith in rw e refl
 
-joined : (front : List Value) (v : Value) (o : Option (List Value × List ℕ))
+after_front-next : (front : List Value) (v : Value) (o : Option (List Value × List ℕ))
     → after_front front (o >>= λ more. Some (v ∷ more.0, more.1)) ≡ after_front (front ++ v ∷ []) o
-joined front v None = refl
-joined front v (Some x) = ap (λ row. Some (row, x.1)) (sym (append_assoc front (v ∷ []) x.0))
+after_front-next front v None = refl
+after_front-next front v (Some x) = ap (λ row. Some (row, x.1)) (sym (append_assoc front (v ∷ []) x.0))
 
 -- one more value is read
 pub reads_one : (count i : ℕ) (front : List Value) (bytes after : List ℕ) (v : Value) → i < count
     → Some (v, after) ≡ value_and_rest bytes
     → after_front front (values_and_rest (count - i) bytes) ≡ after_front (front ++ v ∷ []) (values_and_rest (count - (i + 1)) after)
 reads_one count i front bytes after v inside e =
-    ap (after_front front) (turn count i bytes inside ∙ ap (λ o. then_more o (count - (i + 1))) (sym e))
-    ∙ joined front v (values_and_rest (count - (i + 1)) after)
+    ap (after_front front) (values_and_rest-next count i bytes inside ∙ ap (λ o. then_more o (count - (i + 1))) (sym e))
+    ∙ after_front-next front v (values_and_rest (count - (i + 1)) after)
 
 -- there is no further value
 pub reads_none : (count i : ℕ) (front : List Value) (bytes : List ℕ) → i < count
     → None ≡ value_and_rest bytes → after_front front (values_and_rest (count - i) bytes) ≡ None
 reads_none count i front bytes inside e =
-    ap (after_front front) (turn count i bytes inside ∙ ap (λ o. then_more o (count - (i + 1))) (sym e))
+    ap (after_front front) (values_and_rest-next count i bytes inside ∙ ap (λ o. then_more o (count - (i + 1))) (sym e))
 
 -- all were read
 pub reads_all : (front : List Value) (bytes : List ℕ) → after_front front (values_and_rest 0 bytes) ≡ Some (front, bytes)

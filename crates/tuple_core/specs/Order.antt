@@ -22,19 +22,19 @@ abbrev pub row_eq : RowValues → RowValues → Bool
 row_eq = pointwise value_eq
 
 -- the derived order is the one of the table
-derived : (x y : Value) → ordered.cmp-value.it x y ≡ value_cmp x y
-derived (value.Int x) (value.Int y) = refl
-derived (value.Int x) (value.Text y) = refl
-derived (value.Int x) (value.Bool y) = refl
-derived (value.Text x) (value.Int y) = refl
-derived (value.Text x) (value.Text y) = refl
-derived (value.Text x) (value.Bool y) = refl
-derived (value.Bool x) (value.Int y) = refl
-derived (value.Bool x) (value.Text y) = refl
-derived (value.Bool x) (value.Bool y) = refl
+cmp_is_table : (x y : Value) → ordered.cmp-value.it x y ≡ value_cmp x y
+cmp_is_table (value.Int x) (value.Int y) = refl
+cmp_is_table (value.Int x) (value.Text y) = refl
+cmp_is_table (value.Int x) (value.Bool y) = refl
+cmp_is_table (value.Text x) (value.Int y) = refl
+cmp_is_table (value.Text x) (value.Text y) = refl
+cmp_is_table (value.Text x) (value.Bool y) = refl
+cmp_is_table (value.Bool x) (value.Int y) = refl
+cmp_is_table (value.Bool x) (value.Text y) = refl
+cmp_is_table (value.Bool x) (value.Bool y) = refl
 
 pub values_total : IsTotalOrder value_cmp
-values_total = subst IsTotalOrder (λ i x y. derived x y i) order_laws.total-law
+values_total = subst IsTotalOrder (λ i x y. cmp_is_table x y i) order_laws.total-law
 
 pub rows_total : IsTotalOrder row_cmp
 rows_total = lists_total values_total
@@ -43,7 +43,7 @@ pub rows_equiv : IsEquivalence row_eq
 rows_equiv = lists_equiv equal_laws.laws-law
 
 pub values_tie : (x y : Value) → value_eq x y ≡ eq_by_cmp value_cmp x y
-values_tie x y = order_laws.matches_eq-law x y ∙ ap is_eq (derived x y)
+values_tie x y = order_laws.matches_eq-law x y ∙ ap is_eq (cmp_is_table x y)
 
 pub rows_tie : (xs ys : RowValues) → row_eq xs ys ≡ eq_by_cmp row_cmp xs ys
 rows_tie = lists_ties value_cmp values_tie
