@@ -2,3 +2,4 @@ pub mod CutLaws
 pub mod MarkLaws
 pub mod FindLaws
 pub mod HoldLaws
+pub mod PieceLaws

@@ -1,5 +1,5 @@
 pub mod Frames
-pub mod Cuts
+pub mod Scanning
 pub mod Marks
 pub mod Holding
 pub mod Whole

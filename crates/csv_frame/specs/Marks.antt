@@ -1,9 +1,10 @@
 -- A byte order mark.
-use Rattle.std.specs.Prelude.{ℕ, Bool, false, List, [], ◌∷◌}
+use Rattle.std.specs.Prelude.{Bool, false, List, [], ◌∷◌}
+use Rattle.med_prelude.specs.Texts.{Bytes}
 use Rattle.csv_frame.specs.Frames.{is_mark}
 
 -- the bytes begin with a mark
-abbrev pub begins_with_mark : List ℕ → Bool
+abbrev pub begins_with_mark : Bytes → Bool
 begins_with_mark [] = false
 begins_with_mark (a ∷ []) = false
 begins_with_mark (a ∷ b ∷ []) = false

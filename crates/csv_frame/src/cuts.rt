@@ -1,6 +1,6 @@
-//! Where the frame at hand ends.
+//! Where the frame at hand ends. A frame is found byte by byte, in a mode that says whether quotes are open.
 
-ghost use Rattle.csv_frame.specs.Cuts.{HoldsCut, IsCut, IsScanned};
+ghost use Rattle.csv_frame.specs.Scanning.{HoldsCut, IsCut, IsScanned};
 
 /// The most bytes of a frame, its byte order marks counted.
 pub const LONGEST_FRAME: usize = 4_194_304;
@@ -25,7 +25,7 @@ impl Scan {
 
 // What a scan came upon.
 enum Scanned {
-    /// The line feed that ends the frame, at this place.
+    /// The line feed that ends the frame, at this offset.
     LineFeed(usize),
     TooLong,
     /// The end of the bytes.
@@ -47,19 +47,19 @@ fn scan_on(bytes: &[u8], scan: &mut Scan) -> Scanned
     ensures found { HoldsCut bytes.now scan.new result }
 {
     let mut quoted = scan.quoted;
-    let mut place = scan.seen;
-    'bytes: while place < bytes.len() {
-        let byte = bytes[place];
+    let mut at = scan.seen;
+    'bytes: while at < bytes.len() {
+        let byte = bytes[at];
         if byte == LINE_FEED && !quoted {
             *scan = Scan {
-                seen: place,
+                seen: at,
                 quoted,
             };
-            return Scanned::LineFeed(place);
+            return Scanned::LineFeed(at);
         }
-        if place == LONGEST_FRAME {
+        if at == LONGEST_FRAME {
             *scan = Scan {
-                seen: place,
+                seen: at,
                 quoted,
             };
             return Scanned::TooLong;
@@ -67,10 +67,10 @@ fn scan_on(bytes: &[u8], scan: &mut Scan) -> Scanned
         if byte == QUOTE {
             quoted = !quoted;
         }
-        place += 1;
+        at += 1;
     }
     *scan = Scan {
-        seen: place,
+        seen: at,
         quoted,
     };
     Scanned::All

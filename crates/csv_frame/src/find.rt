@@ -1,7 +1,7 @@
 //! The next frame that isn't skipped.
 
 ghost use Rattle.std.specs.Prelude.{◌≡◌, ◌+◌, ◌<◌, ◌≤◌, ◌^◌, length};
-ghost use Rattle.csv_frame.specs.Holding.{IsAt, Peeks, held_of};
+ghost use Rattle.csv_frame.specs.Holding.{IsCursor, KeepsLong, PeeksFrame, held_of};
 
 use crate::cuts::{Cut, Scan, next_cut};
 use crate::marks::{is_blank, marks_end};
@@ -19,7 +19,7 @@ pub enum FrameStep {
     Frame(Span),
     /// No whole frame is held.
     NotWhole,
-    /// The frame that begins at this byte of the text has too many bytes; this answer stays.
+    /// The frame that begins at this offset of the text has too many bytes; this answer stays.
     TooLong { at: u64 },
 }
 
@@ -32,26 +32,27 @@ pub enum Peek {
     TooLong { at: u64 },
 }
 
-/// Where the next frame begins, and how far it was looked through.
+/// Where the next frame begins among the bytes, and how far it was looked through.
 #[derive(Clone, Copy, Debug)]
-pub struct Place {
+pub struct Cursor {
     pub start: usize,
     pub scan: Scan,
 }
 
-/// Finds the next frame, and moves the place past all that is skipped before it. `before` is the number of the
-/// text's bytes that come before these.
-pub fn find_frame(bytes: &[u8], place: &mut Place, before: u64, ended: bool) -> Peek
-    requires place { IsAt bytes.now place.old }
+/// Finds the next frame, and moves the cursor past all that is skipped before it. `before` is the offset of
+/// these bytes in the text.
+pub fn find_frame(bytes: &[u8], cursor: &mut Cursor, before: u64, ended: bool) -> Peek
+    requires cursor { IsCursor bytes.now cursor.old }
     requires few { before + length bytes.now < 2 ^ 64 }
-    ensures place { IsAt bytes.now place.new }
-    ensures forward { place.old.start ≤ place.new.start }
-    ensures peek { Peeks (held_of bytes.now place.old.start before ended) (held_of bytes.now place.new.start before ended) result }
+    ensures cursor { IsCursor bytes.now cursor.new }
+    ensures forward { cursor.old.start ≤ cursor.new.start }
+    ensures peek { PeeksFrame (held_of bytes.now cursor.old.start before ended) (held_of bytes.now cursor.new.start before ended) result }
+    ensures long { KeepsLong (held_of bytes.now cursor.old.start before ended) (held_of bytes.now cursor.new.start before ended) }
 {
     'cuts: loop {
-        let start = place.start;
+        let start = cursor.start;
         let rest = &bytes[start..];
-        let (end, next) = match next_cut(rest, &mut place.scan, ended) {
+        let (end, next) = match next_cut(rest, &mut cursor.scan, ended) {
             Cut::Whole { end, next } => (end, next),
             Cut::TooLong => {
                 return Peek::TooLong {
@@ -71,7 +72,7 @@ pub fn find_frame(bytes: &[u8], place: &mut Place, before: u64, ended: bool) -> 
                 count: next,
             };
         }
-        *place = Place {
+        *cursor = Cursor {
             start: start + next,
             scan: Scan::FRESH,
         };

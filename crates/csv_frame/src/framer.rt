@@ -1,10 +1,11 @@
 //! Frames of a text that comes in pieces.
 
-ghost use Rattle.std.specs.Prelude.{◌≡◌, ◌+◌, ◌≤◌, ◌^◌, ℕ, false, true, List, [], ◌++◌, length, drop, Option, is_ok, OnOk, if◌then◌else◌};
-ghost use Rattle.csv_frame.specs.Holding.{HasGiven, IsGood, Peeks, StepsFrame, frame_of, spanned};
+ghost use Rattle.std.specs.Prelude.{◌≡◌, ◌+◌, ◌≤◌, ◌^◌, false, true, List, [], ◌++◌, length, drop, Option, is_ok, OnOk, if◌then◌else◌};
+ghost use Rattle.med_prelude.specs.Texts.{Bytes};
+ghost use Rattle.csv_frame.specs.Holding.{HasGiven, IsGood, KeepsLong, PeeksFrame, StepsFrame, TellsLong, frame_of, span_bytes};
 
 use crate::cuts::Scan;
-use crate::find::{FrameStep, Peek, Place, Span, find_frame};
+use crate::find::{Cursor, FrameStep, Peek, Span, find_frame};
 use std::alloc::{AllocError, Global};
 use std::marker::Model;
 
@@ -13,21 +14,21 @@ use std::marker::Model;
 #[derive(Debug, Drop)]
 pub struct Framer {
     buffer: Vec<u8>,
-    place: Place,
-    // How many bytes were given up.
+    cursor: Cursor,
+    // How many bytes were given up: the offset of the buffer in the text.
     before: u64,
     ended: bool,
 }
 
 impl Model for Framer {
     ghost use Rattle.std.specs.Prelude.{◌+◌, ◌≤◌, ◌^◌, length};
-    ghost use Rattle.csv_frame.specs.Holding.{Held, IsAt, held_of};
+    ghost use Rattle.csv_frame.specs.Holding.{Held, IsCursor, held_of};
 
     ghost Value = { Held };
 
-    ghost view = { λ f. held_of f.buffer.items f.place.start f.before f.ended };
+    ghost view = { λ f. held_of f.buffer.items f.cursor.start f.before f.ended };
 
-    ghost invariant = { λ f. IsAt f.buffer.items f.place × (f.before + length f.buffer.items ≤ 2 ^ 62) };
+    ghost invariant = { λ f. IsCursor f.buffer.items f.cursor × (f.before + length f.buffer.items ≤ 2 ^ 62) };
 }
 
 impl Framer {
@@ -38,7 +39,7 @@ impl Framer {
     {
         Framer {
             buffer: Vec::new(alloc),
-            place: Place {
+            cursor: Cursor {
                 start: 0,
                 scan: Scan::FRESH,
             },
@@ -54,7 +55,7 @@ impl Framer {
         ensures rest { self.new.rest ≡ (if is_ok result then self.old.rest ++ piece.now else self.old.rest) }
         ensures at { self.new.at ≡ self.old.at }
         ensures ended { self.new.ended ≡ self.old.ended }
-        ensures gave { OnOk result ((fed : List ℕ) (given : List (Option (List ℕ))) → HasGiven fed given self.old → HasGiven (fed ++ piece.now) given self.new) }
+        ensures gave { OnOk result ((fed : Bytes) (given : List (Option Bytes)) → HasGiven fed given self.old → HasGiven (fed ++ piece.now) given self.new) }
     {
         self.compact();
         self.buffer.extend_from_slice(piece)?;
@@ -67,18 +68,18 @@ impl Framer {
         ensures at { self.new.at ≡ self.old.at }
         ensures ended { self.new.ended ≡ self.old.ended }
     {
-        let passed = self.place.start;
+        let passed = self.cursor.start;
         if passed >= self.buffer.len() - passed {
             give_up(&mut self.buffer, passed);
             self.before += passed as u64;
-            self.place.start = 0;
+            self.cursor.start = 0;
         }
     }
 
     /// Tells the text's end.
     pub fn finish(&mut self)
         ensures told { self.new ≡ record self.old { ended = true } }
-        ensures gave { (fed : List ℕ) (given : List (Option (List ℕ))) → HasGiven fed given self.old → HasGiven fed given self.new }
+        ensures gave { (fed : Bytes) (given : List (Option Bytes)) → HasGiven fed given self.old → HasGiven fed given self.new }
     {
         self.ended = true;
     }
@@ -96,7 +97,8 @@ impl Framer {
         ensures bytes { self.new.bytes ≡ self.old.bytes }
         ensures at { self.new.at + length self.new.rest ≡ self.old.at + length self.old.rest }
         ensures ended { self.new.ended ≡ self.old.ended }
-        ensures gave { (fed : List ℕ) (given : List (Option (List ℕ))) → HasGiven fed given self.old → HasGiven fed (given ++ frame_of self.new result) self.new }
+        ensures gave { (fed : Bytes) (given : List (Option Bytes)) → HasGiven fed given self.old → HasGiven fed (given ++ frame_of self.new result) self.new }
+        ensures long { (fed : Bytes) (given : List (Option Bytes)) → HasGiven fed given self.old → TellsLong fed self.old.ended result }
     {
         match self.peek() {
             Peek::Frame { span, count } => {
@@ -110,7 +112,8 @@ impl Framer {
 
     /// The next frame, which stays, for a reader that may have to come back to it.
     pub fn peek(&mut self) -> Peek
-        ensures peek { Peeks self.old self.new result }
+        ensures peek { PeeksFrame self.old self.new result }
+        ensures long { KeepsLong self.old self.new }
         ensures bytes { self.new.bytes ≡ self.old.bytes }
         ensures forward { self.old.at ≤ self.new.at }
         ensures at { self.new.at + length self.new.rest ≡ self.old.at + length self.old.rest }
@@ -118,7 +121,7 @@ impl Framer {
     {
         find_frame(
             self.buffer.as_slice(),
-            &mut self.place,
+            &mut self.cursor,
             self.before,
             self.ended,
         )
@@ -127,16 +130,16 @@ impl Framer {
     /// The bytes of a frame.
     pub fn bytes(&self, span: Span) -> &[u8]
         requires { IsGood self.now span }
-        ensures { result.now ≡ spanned self.now span }
+        ensures { result.now ≡ span_bytes self.now span }
     {
         &self.buffer[span.from..span.end]
     }
 
-    /// All bytes from the place of the next frame on, for a reader that takes several frames at once.
+    /// All bytes from the next frame's start on, for a reader that takes several frames at once.
     pub fn rest(&self) -> &[u8]
         ensures { result.now ≡ self.now.rest }
     {
-        &self.buffer[self.place.start..]
+        &self.buffer[self.cursor.start..]
     }
 
     /// Passes bytes that a reader took; the next frame begins after them.
@@ -147,8 +150,8 @@ impl Framer {
         ensures at { self.new.at ≡ self.old.at + count }
         ensures ended { self.new.ended ≡ self.old.ended }
     {
-        self.place = Place {
-            start: self.place.start + count,
+        self.cursor = Cursor {
+            start: self.cursor.start + count,
             scan: Scan::FRESH,
         };
     }

@@ -15,11 +15,11 @@ pub fn marks_end(frame: &[u8]) -> usize
     ensures within { result ≤ length frame.now }
     ensures rest { drop result frame.now ≡ without_marks frame.now }
 {
-    let mut place = 0;
-    'marks: while begins_with_mark(&frame[place..]) {
-        place += 3;
+    let mut end = 0;
+    'marks: while begins_with_mark(&frame[end..]) {
+        end += 3;
     }
-    place
+    end
 }
 
 /// Whether a frame without marks is skipped: it is empty, or only CR.

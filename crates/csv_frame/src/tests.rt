@@ -60,13 +60,26 @@ fn every_cut_into_two_gives_the_same_frames(rt: HostRuntime) -> Result<(), Fail>
 }
 
 #[test]
-fn the_last_frame_waits_for_the_end(rt: HostRuntime) -> Result<(), Fail> {
+fn frames_are_peeked_passed_and_waited_for(rt: HostRuntime) -> Result<(), Fail> {
     let alloc = rt.alloc();
     let mut framer = Framer::new(alloc);
     assert_eq!(rt; framer.next_frame(), FrameStep::NotWhole);
-    framer.feed(alloc, b"a\nb")?;
+    framer.feed(alloc, b"\n\xEF\xBB\xBFa\nb\nc\nd")?;
+    match framer.peek() {
+        Peek::Frame { span, count } => {
+            assert_eq!(rt; framer.bytes(span), b"a".as_slice());
+            assert_eq!(rt; count, 5);
+        }
+        _ => assert!(rt; false, "no frame is peeked"),
+    }
+    match framer.next_frame() {
+        FrameStep::Frame(span) => assert_eq!(rt; framer.bytes(span), b"a".as_slice()),
+        _ => assert!(rt; false, "the peeked frame is gone"),
+    }
+    framer.skip(2);
+    assert_eq!(rt; framer.rest(), b"c\nd".as_slice());
     assert!(rt; matches!(framer.next_frame(), FrameStep::Frame(_)));
-    assert_eq!(rt; framer.next_frame(), FrameStep::NotWhole);
+    assert_eq!(rt; framer.next_frame(), FrameStep::NotWhole, "the last frame waits");
     framer.finish();
     assert!(rt; matches!(framer.next_frame(), FrameStep::Frame(_)));
     assert_eq!(rt; framer.next_frame(), FrameStep::NotWhole);
@@ -74,75 +87,31 @@ fn the_last_frame_waits_for_the_end(rt: HostRuntime) -> Result<(), Fail> {
 }
 
 #[test]
-fn a_frame_that_was_peeked_stays(rt: HostRuntime) -> Result<(), Fail> {
-    let alloc = rt.alloc();
-    let mut framer = Framer::new(alloc);
-    framer.feed(alloc, b"\n\xEF\xBB\xBFa\nb\n")?;
-    match framer.peek() {
-        Peek::Frame { span, count } => {
-            assert_eq!(rt; framer.bytes(span), b"a".as_slice());
-            assert_eq!(rt; count, 5);
-        }
-        _ => assert!(rt; false, "no frame"),
-    }
-    match framer.next_frame() {
-        FrameStep::Frame(span) => assert_eq!(rt; framer.bytes(span), b"a".as_slice()),
-        _ => assert!(rt; false, "no frame"),
-    }
-    assert_eq!(rt; framer.rest(), b"b\n".as_slice());
-    Ok(())
-}
-
-#[test]
-fn skipped_bytes_are_no_frame(rt: HostRuntime) -> Result<(), Fail> {
-    let alloc = rt.alloc();
-    let mut framer = Framer::new(alloc);
-    framer.feed(alloc, b"a\nb\nc\n")?;
-    framer.skip(2);
-    assert_eq!(rt; framer.rest(), b"b\nc\n".as_slice());
-    match framer.next_frame() {
-        FrameStep::Frame(span) => assert_eq!(rt; framer.bytes(span), b"b".as_slice()),
-        _ => assert!(rt; false, "no frame"),
-    }
-    Ok(())
-}
-
-#[test]
-fn a_frame_of_the_greatest_length(rt: HostRuntime) -> Result<(), Fail> {
-    let alloc = rt.alloc();
-    let long = vec![in alloc; b'a'; LONGEST_FRAME]?;
-    let mut framer = Framer::new(alloc);
-    framer.feed(alloc, long.as_slice())?;
-    assert_eq!(rt; framer.next_frame(), FrameStep::NotWhole);
-    framer.feed(alloc, b"\nb\n")?;
-    match framer.next_frame() {
-        FrameStep::Frame(span) => assert_eq!(rt; framer.bytes(span).len(), 4_194_304),
-        _ => assert!(rt; false, "no frame"),
-    }
-    assert!(rt; matches!(framer.next_frame(), FrameStep::Frame(_)));
-    Ok(())
-}
-
-#[test]
-fn a_frame_one_byte_too_long(rt: HostRuntime) -> Result<(), Fail> {
+fn frames_of_the_greatest_length_and_longer(rt: HostRuntime) -> Result<(), Fail> {
     let alloc = rt.alloc();
     let long = vec![in alloc; b'a'; LONGEST_FRAME - 3]?;
-    for cut in [0, 1, LONGEST_FRAME - 4] {
-        let (first, second) = long.split_at(cut.min(long.len()));
+    for (end, step) in [
+        (b"\nb\n", FrameStep::NotWhole),
+        (b"a\nb", FrameStep::TooLong { at: 4 }),
+    ] {
         let mut framer = Framer::new(alloc);
         framer.feed(alloc, b"x\n\r\n\xEF\xBB\xBF")?;
-        framer.feed(alloc, first)?;
         assert!(rt; matches!(framer.next_frame(), FrameStep::Frame(_)));
-        framer.feed(alloc, second)?;
-        assert_eq!(rt; framer.next_frame(), FrameStep::NotWhole, "{cut}");
-        framer.feed(alloc, b"a")?;
-        assert_eq!(rt; framer.next_frame(), FrameStep::TooLong { at: 4 }, "{cut}");
-        framer.feed(alloc, b"\nb\n")?;
-        assert_eq!(rt;
-            framer.next_frame(),
-            FrameStep::TooLong { at: 4 },
-            "it stays"
-        );
+        framer.feed(alloc, long.as_slice())?;
+        assert_eq!(rt; framer.next_frame(), FrameStep::NotWhole, "it may end yet");
+        framer.feed(alloc, end)?;
+        if step == FrameStep::NotWhole {
+            match framer.next_frame() {
+                FrameStep::Frame(span) => assert_eq!(rt; framer.bytes(span).len(), 4_194_301),
+                _ => assert!(rt; false, "no frame"),
+            }
+            assert!(rt; matches!(framer.next_frame(), FrameStep::Frame(_)));
+        }
+        assert_eq!(rt; framer.next_frame(), step);
+        framer.feed(alloc, b"\nb\n\nc")?;
+        if step != FrameStep::NotWhole {
+            assert_eq!(rt; framer.next_frame(), step, "it stays");
+        }
     }
     Ok(())
 }

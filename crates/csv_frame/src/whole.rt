@@ -3,7 +3,7 @@
 ghost use Rattle.csv_frame.specs.Whole.{StartsWith};
 
 use crate::cuts::Scan;
-use crate::find::{Peek, Place, find_frame};
+use crate::find::{Cursor, Peek, find_frame};
 
 /// What stands at the start of a text.
 #[derive(Clone, Copy, Debug)]
@@ -17,14 +17,14 @@ pub enum FirstFrame<'a> {
 pub fn first_frame(text: &[u8], ended: bool) -> FirstFrame<'_>
     ensures { StartsWith text.now ended result }
 {
-    let mut place = Place {
+    let mut cursor = Cursor {
         start: 0,
         scan: Scan::FRESH,
     };
-    match find_frame(text, &mut place, 0, ended) {
+    match find_frame(text, &mut cursor, 0, ended) {
         Peek::Frame { span, count } => FirstFrame::Frame {
             frame: &text[span.from..span.end],
-            rest: &text[place.start + count..],
+            rest: &text[cursor.start + count..],
         },
         Peek::TooLong { .. } => FirstFrame::TooLong,
         Peek::NotWhole => FirstFrame::Nothing,

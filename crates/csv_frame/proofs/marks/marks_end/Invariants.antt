@@ -4,9 +4,9 @@ use Rattle.csv_frame.proofs.marks.marks_end.Given as goal
 
 abbrev pub invariant-marks : goal.invariant-marks
 invariant-marks l = record {
-  within : l.place ≤ length l.frame;
-  same : without_marks (drop l.place l.frame) ≡ without_marks l.frame;
+  within : l.end ≤ length l.frame;
+  same : without_marks (drop l.end l.frame) ≡ without_marks l.frame;
 }
 
 abbrev pub decreases-marks : goal.decreases-marks
-decreases-marks l = length l.frame - l.place
+decreases-marks l = length l.frame - l.end

@@ -8,5 +8,5 @@ pub returns-clause-gave : goal.returns-clause-gave
 returns-clause-gave c =
     let inside = c.self.inside in
     let rest = ap (λ (h : Held). h.rest ++ c.args.piece.now) c.self.view_is ∙ ap (λ (bs : List ℕ). bs ++ c.args.piece.now) c.compact.ensures.rest in
-    let fed = ap (drop inside.place.start) c.in_ok-extend_from_slice.ensures.items ∙ drop-append-le inside.place.start inside.buffer.items c.args.piece.now c.self.invariant.0.within ∙ rest in
-    fed_more c.args.self.now (held_of c.extend_from_slice.new.self.items inside.place.start inside.before inside.ended) c.args.piece.now fed c.requires.open
+    let fed = ap (drop inside.cursor.start) c.in_ok-extend_from_slice.ensures.items ∙ drop-append-le inside.cursor.start inside.buffer.items c.args.piece.now c.self.invariant.0.within ∙ rest in
+    fed_more c.args.self.now (held_of c.extend_from_slice.new.self.items inside.cursor.start inside.before inside.ended) c.args.piece.now fed (ap (λ (h : Held). h.at) c.self.view_is ∙ c.compact.ensures.at) c.requires.open
