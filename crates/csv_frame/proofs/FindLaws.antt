@@ -1,14 +1,11 @@
 -- A frame found among the bytes that are held.
-use Rattle.std.proofs.Common.{◌≡◌, ℕ, ◌+◌, ◌≤◌, Bool, true, false, List, [], ◌∷◌, ◌++◌, length, take, drop, slice_range, Option, Some, None, arith, refl, sym, ap, ◌∙◌, add_assoc}
+use Rattle.std.proofs.Common.{◌≡◌, ℕ, ◌+◌, ◌≤◌, Bool, true, false, List, [], ◌∷◌, ◌++◌, length, take, drop, slice_range, Option, Some, arith, refl, sym, ap, ◌∙◌, add_assoc}
 use Rattle.std.proofs.lemmas.List.{drop-drop, drop-take, length-drop, length-take-le}
 use Rattle.std.proofs.lemmas.Slice.{between_is}
 use Rattle.csv_frame.specs.Frames.{GoesOn, frames, frames_of, is_blank, long_from, pieces, without_marks}
 use Rattle.csv_frame.specs.Scanning.{IsWholeCut, ScansLong, scanned_pieces}
-use Rattle.csv_frame.specs.Holding.{GivesFrames, HoldsNone, IsAtHand, IsTooLong, KeepsLong, held_of}
-use Rattle.csv_frame.proofs.PieceLaws.{pieces_are}
-
-pub frames_are : (text : List ℕ) (ended : Bool) → frames text ended ≡ frames_of (scanned_pieces text ended)
-frames_are text ended = ap frames_of (pieces_are text ended)
+use Rattle.csv_frame.specs.Holding.{GivesFrames, IsAtHand, IsTooLong, KeepsLong, held_of}
+use Rattle.csv_frame.proofs.PieceLaws.{frames_are, pieces_are}
 
 kept_frame : (piece : List ℕ) (more : List (Option (List ℕ))) → is_blank (without_marks piece) ≡ false → frames_of (Some piece ∷ more) ≡ Some (without_marks piece) ∷ frames_of more
 kept_frame piece more e = rw e refl

@@ -1,5 +1,5 @@
 -- One pass over the bytes finds the pieces of a text.
-use Rattle.std.proofs.Common.{◌≡◌, ℕ, ◌+◌, ◌<◌, ◌≤◌, ◌==◌, ◌&&◌, ◌||◌, ◌%◌, not, nat_lt, Bool, true, false, List, [], ◌∷◌, ◌++◌, length, take, drop, slice_range, map, filter, count_by, Option, Some, None, arith, refl, sym, ap, ◌∙◌, append_assoc, append-nil, length-append, if◌then◌else◌}
+use Rattle.std.proofs.Common.{◌≡◌, ℕ, ◌+◌, ◌<◌, ◌≤◌, ◌==◌, ◌&&◌, ◌%◌, not, Bool, true, false, List, [], ◌∷◌, ◌++◌, length, drop, slice_range, map, filter, count_by, Option, Some, None, arith, refl, sym, ap, ◌∙◌, append_assoc, append-nil, length-append, if◌then◌else◌}
 use Rattle.std.proofs.Math.Seq.{drop-length, take-append_seam}
 use Rattle.std.proofs.lemmas.Bool.{eqb-false, eqb-true}
 use Rattle.std.proofs.lemmas.Bool.Decides.{nat_tests}
@@ -7,7 +7,7 @@ use Rattle.std.proofs.lemmas.List.{drop-append-le, length-drop}
 use Rattle.std.proofs.lemmas.List.Sums.{sum_by-append, sum_by-cons}
 use Rattle.std.proofs.lemmas.Slice.{between_is}
 use Rattle.std.specs.List.{enumerate_from}
-use Rattle.csv_frame.specs.Frames.{cut_offsets, has_even_quotes, is_cut, is_long, last_piece, line_feed, longest_frame, piece_before, pieces, pieces_from, quote}
+use Rattle.csv_frame.specs.Frames.{frames, frames_of, has_even_quotes, is_cut, is_long, last_piece, line_feed, longest_frame, piece_before, pieces, pieces_from, quote}
 use Rattle.csv_frame.specs.Scanning.{ends_piece, open_piece, quoted_after, scanned_after, scanned_pieces}
 
 -- the offsets of cuts among the bytes from an offset on
@@ -129,10 +129,10 @@ left_is (byte ∷ bytes) head from quoted ended h is room =
     let mode = mode_next head byte quoted is in
     let is_end = cut_is head bytes byte quoted is in
     elim (ends_piece quoted byte) as (λ x. ends_piece quoted byte ≡ x
-        → left_from from head (byte ∷ bytes) ended
-        ≡ (if x then Some (drop from head) ∷ scanned_after false [] bytes ended
-        else if length (drop from head) == longest_frame then None ∷ []
-        else scanned_after (quoted_after quoted byte) (drop from head ++ byte ∷ []) bytes ended)) [
+    → left_from from head (byte ∷ bytes) ended
+    ≡ (if x then Some (drop from head) ∷ scanned_after false [] bytes ended
+    else if length (drop from head) == longest_frame then None ∷ []
+    else scanned_after (quoted_after quoted byte) (drop from head ++ byte ∷ []) bytes ended)) [
       | true ↦ λ e.
           let none : drop (length on) on ≡ [] = drop-length on in
           let closed : false ≡ not (has_even_quotes on) = sym (closes quoted byte e) ∙ mode in
@@ -142,18 +142,21 @@ left_is (byte ∷ bytes) head from quoted ended h is room =
           ∙ ap (λ (more : List (Option (List ℕ))). Some (drop from head) ∷ more) next
       | false ↦ λ e. elim (length (drop from head) == longest_frame) as (λ y. (length (drop from head) == longest_frame) ≡ y
           → left_from from head (byte ∷ bytes) ended ≡ (if y then None ∷ [] else scanned_after (quoted_after quoted byte) (drop from head ++ byte ∷ []) bytes ended)) [
-        | true ↦ λ full.
-            let most = eqb-true (length (drop from head)) longest_frame full in
-            step_on head bytes byte from ended (is_end ∙ e)
-            ∙ left_long bytes on from ended (omega arith) (rw (front, length-append) (omega (arith, most)))
-        | false ↦ λ less.
-            let other = eqb-false (length (drop from head)) longest_frame less in
-            step_on head bytes byte from ended (is_end ∙ e)
-            ∙ left_is bytes on from (quoted_after quoted byte) ended (omega arith) mode (rw (front, length-append) (omega (arith, other)))
-            ∙ ap (λ (f : List ℕ). scanned_after (quoted_after quoted byte) f bytes ended) front
-      ] refl
+            | true ↦ λ full.
+                let most = eqb-true (length (drop from head)) longest_frame full in
+                step_on head bytes byte from ended (is_end ∙ e)
+                ∙ left_long bytes on from ended (omega arith) (rw (front, length-append) (omega (arith, most)))
+            | false ↦ λ less.
+                let other = eqb-false (length (drop from head)) longest_frame less in
+                step_on head bytes byte from ended (is_end ∙ e)
+                ∙ left_is bytes on from (quoted_after quoted byte) ended (omega arith) mode (rw (front, length-append) (omega (arith, other)))
+                ∙ ap (λ (f : List ℕ). scanned_after (quoted_after quoted byte) f bytes ended) front
+          ] refl
     ] refl
 
 pub pieces_are : (text : List ℕ) (ended : Bool) → pieces text ended ≡ scanned_pieces text ended
 unfolding pieces
 pieces_are text ended = left_is text [] 0 false ended (omega arith) refl (omega arith)
+
+pub frames_are : (text : List ℕ) (ended : Bool) → frames text ended ≡ frames_of (scanned_pieces text ended)
+frames_are text ended = ap frames_of (pieces_are text ended)

@@ -1,5 +1,5 @@
 -- A byte order mark.
-use Rattle.std.specs.Prelude.{Bool, false, List, [], ◌∷◌}
+use Rattle.std.specs.Prelude.{Bool, false, [], ◌∷◌}
 use Rattle.med_prelude.specs.Texts.{Bytes}
 use Rattle.csv_frame.specs.Frames.{is_mark}
 

@@ -1,7 +1,7 @@
 -- The pieces of a text as one pass over its bytes finds them. Its mode is whether quotes are open.
 --
 -- What holds of a text that may go on is known for each way in which more bytes may follow.
-use Rattle.std.specs.Prelude.{◌≡◌, ℕ, ◌+◌, ◌<◌, ◌≤◌, ◌==◌, ◌&&◌, not, Bool, true, false, List, [], ◌∷◌, ◌++◌, length, take, drop, Option, Some, None, if◌then◌else◌}
+use Rattle.std.specs.Prelude.{◌≡◌, ℕ, ◌+◌, ◌<◌, ◌≤◌, ◌==◌, ◌&&◌, not, Bool, false, List, [], ◌∷◌, ◌++◌, length, take, drop, Option, Some, None, if◌then◌else◌}
 use Rattle.med_prelude.specs.Texts.{Bytes}
 use Rattle.csv_frame.specs.Frames.{GoesOn, line_feed, long_from, longest_frame, quote}
 use Rattle.csv_frame.specs.declared.cuts.Scan.{Scan}

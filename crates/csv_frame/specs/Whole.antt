@@ -1,5 +1,5 @@
 -- The frames of a text that is there as a whole.
-use Rattle.std.specs.Prelude.{◌≡◌, ◌<◌, Bool, List, [], ◌∷◌, length, Some, None}
+use Rattle.std.specs.Prelude.{◌≡◌, ◌<◌, Bool, [], ◌∷◌, length, Some, None}
 use Rattle.med_prelude.specs.Texts.{Bytes}
 use Rattle.csv_frame.specs.Frames.{frames}
 use Rattle.csv_frame.specs.declared.whole.FirstFrame.{FirstFrame}

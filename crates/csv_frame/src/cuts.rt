@@ -51,17 +51,11 @@ fn scan_on(bytes: &[u8], scan: &mut Scan) -> Scanned
     'bytes: while at < bytes.len() {
         let byte = bytes[at];
         if byte == LINE_FEED && !quoted {
-            *scan = Scan {
-                seen: at,
-                quoted,
-            };
+            *scan = Scan { seen: at, quoted };
             return Scanned::LineFeed(at);
         }
         if at == LONGEST_FRAME {
-            *scan = Scan {
-                seen: at,
-                quoted,
-            };
+            *scan = Scan { seen: at, quoted };
             return Scanned::TooLong;
         }
         if byte == QUOTE {
@@ -69,10 +63,7 @@ fn scan_on(bytes: &[u8], scan: &mut Scan) -> Scanned
         }
         at += 1;
     }
-    *scan = Scan {
-        seen: at,
-        quoted,
-    };
+    *scan = Scan { seen: at, quoted };
     Scanned::All
 }
 

@@ -7,30 +7,30 @@ use Rattle.csv.specs.declared.parser.Action.{Action}
 use Rattle.csv.specs.declared.parser.Action.TheVariants as act
 use Rattle.csv.specs.declared.parser.State.{State}
 use Rattle.csv.specs.declared.parser.State.TheVariants as state
-use Rattle.csv_frame.specs.Frames.{ends_frame}
+use Rattle.csv_frame.specs.Scanning.{ends_piece}
 use Rattle.csv_runs.specs.Records.{only_record}
-use Rattle.csv_runs.specs.Runs.{after_open, after_plain, holds_after, is_quoted, place_after}
+use Rattle.csv_runs.specs.Runs.{after_open, after_plain, holds_after, is_quoted, mode_after}
 use Rattle.csv_runs.specs.RunReading.{from_frame}
-use Rattle.csv_runs.specs.declared.runs.Place.{Place}
-use Rattle.csv_runs.specs.declared.runs.Place.TheVariants as place
+use Rattle.csv_runs.specs.declared.runs.Mode.{Mode}
+use Rattle.csv_runs.specs.declared.runs.Mode.TheVariants as mode
 
--- the reader's state at a place inside a field or before one
-abbrev pub state_at : Place → State
-state_at place.FrameStart = state.StartRecord
-state_at place.FieldStart = state.StartField
-state_at place.InField = state.InField
-state_at place.InQuotes = state.InQuoted
-state_at place.AfterQuote = state.AfterQuote
-state_at place.AfterReturn = state.AfterCr
+-- the reader's state in a mode
+abbrev pub state_at : Mode → State
+state_at mode.FrameStart = state.StartRecord
+state_at mode.FieldStart = state.StartField
+state_at mode.InField = state.InField
+state_at mode.InQuotes = state.InQuoted
+state_at mode.AfterQuote = state.AfterQuote
+state_at mode.AfterReturn = state.AfterCr
 
--- what the step to a place does
-abbrev pub StepsTo : Place → State × Action → Type 0
-StepsTo place.FrameStart s = ⊥
-StepsTo place.FieldStart s = (s.0 ≡ state.StartField) × (is_end s.1 ≡ false)
-StepsTo place.InField s = (s.0 ≡ state.InField) × (is_end s.1 ≡ false)
-StepsTo place.InQuotes s = (s.0 ≡ state.InQuoted) × (is_end s.1 ≡ false)
-StepsTo place.AfterQuote s = (s.0 ≡ state.AfterQuote) × (is_end s.1 ≡ false)
-StepsTo place.AfterReturn s = (s.0 ≡ state.AfterCr) × (s.1 ≡ act.EndRecord)
+-- what the step to a mode does
+abbrev pub StepsTo : Mode → State × Action → Type 0
+StepsTo mode.FrameStart s = ⊥
+StepsTo mode.FieldStart s = (s.0 ≡ state.StartField) × (is_end s.1 ≡ false)
+StepsTo mode.InField s = (s.0 ≡ state.InField) × (is_end s.1 ≡ false)
+StepsTo mode.InQuotes s = (s.0 ≡ state.InQuoted) × (is_end s.1 ≡ false)
+StepsTo mode.AfterQuote s = (s.0 ≡ state.AfterQuote) × (is_end s.1 ≡ false)
+StepsTo mode.AfterReturn s = (s.0 ≡ state.AfterCr) × (s.1 ≡ act.EndRecord)
 
 plain_step : (b : ℕ) → (b == 10) ≡ false → StepsTo (after_plain b) (step default_config state.InField b)
 plain_step b other =
@@ -56,9 +56,9 @@ double_step b other =
       | false ↦ λ e. rw e (plain_step b other)
     ] refl
 
-inner_step : (b : ℕ) → StepsTo (if b == 34 then place.AfterQuote else place.InQuotes) (step default_config state.InQuoted b)
+inner_step : (b : ℕ) → StepsTo (if b == 34 then mode.AfterQuote else mode.InQuotes) (step default_config state.InQuoted b)
 inner_step b =
-    elim (b == 34) as (λ x. (b == 34) ≡ x → StepsTo (if b == 34 then place.AfterQuote else place.InQuotes) (step default_config state.InQuoted b)) [
+    elim (b == 34) as (λ x. (b == 34) ≡ x → StepsTo (if b == 34 then mode.AfterQuote else mode.InQuotes) (step default_config state.InQuoted b)) [
       | true ↦ λ e. rw e (refl, refl)
       | false ↦ λ e. rw e (refl, refl)
     ] refl
@@ -75,10 +75,10 @@ next_end : (s : State) (b : ℕ) (fields : List (List ℕ)) (field rest : List �
 unfolding next_record
 next_end s b fields field rest e end = rw (end, e) refl
 
--- the bytes of a line from a place on, without its line feed; its quotes are closed at its end
-abbrev pub line_from : Place → List ℕ → Bool
+-- what is left of a line in a mode, without its line feed; its quotes are closed at its end
+abbrev pub line_from : Mode → List ℕ → Bool
 line_from here [] = not (is_quoted here)
-line_from here (b ∷ line) = if ends_frame (is_quoted here) b then false else holds_after (place_after here b) (λ next. line_from next line)
+line_from here (b ∷ line) = if ends_piece (is_quoted here) b then false else holds_after (mode_after here b) (λ next. line_from next line)
 
 -- a line gives one record, alone and with more after it, and then the reader reads what comes after
 pub record SameRead (alone within : Option Read) (tail : List ℕ) : Type 0 where
@@ -98,65 +98,65 @@ at_return : (fields : List (List ℕ)) (field tail : List ℕ) → SameRead (Som
 unfolding next_record
 at_return fields field tail = record { fields = fields ++ field ∷ []; to = state.AfterCr; left = 10 ∷ tail; alone_is = refl; within_is = refl; from = refl; goes = refl }
 
--- the reader at a place reads the line alone as it reads it with more after it
-abbrev pub ReadsSame : Place → List ℕ → List ℕ → Type 0
+-- the reader in a mode reads the line alone as it reads it with more after it
+abbrev pub ReadsSame : Mode → List ℕ → List ℕ → Type 0
 ReadsSame here line tail = (fields : List (List ℕ)) (field : List ℕ)
     → SameRead (next_record default_config (state_at here) fields field line) (next_record default_config (state_at here) fields field (line ++ 10 ∷ tail)) tail
 
-goes_on : (here next : Place) (b : ℕ) (line tail : List ℕ) → (step default_config (state_at here) b).0 ≡ state_at next → is_end (step default_config (state_at here) b).1 ≡ false
+goes_on : (here next : Mode) (b : ℕ) (line tail : List ℕ) → (step default_config (state_at here) b).0 ≡ state_at next → is_end (step default_config (state_at here) b).1 ≡ false
     → ReadsSame next line tail → ReadsSame here (b ∷ line) tail
 goes_on here next b line tail e on more fields field =
     rw (next_on (state_at here) (state_at next) b fields field line e on, next_on (state_at here) (state_at next) b fields field (line ++ 10 ∷ tail) e on) (
     more (fields_after (step default_config (state_at here) b).1 fields field) (field_after (step default_config (state_at here) b).1 b field)
     )
 
-pub return_ends : (line : List ℕ) → line_from place.AfterReturn line ≡ true → line ≡ []
+pub return_ends : (line : List ℕ) → line_from mode.AfterReturn line ≡ true → line ≡ []
 return_ends [] h = refl
 return_ends (b ∷ line) h = elim (b == 10) as (λ x. (b == 10) ≡ x → b ∷ line ≡ []) [
   | true ↦ λ e. let no : false ≡ true = rw e at h in cc
   | false ↦ λ e. let no : false ≡ true = rw e at h in cc
 ] refl
 
-line_ends : (here : Place) (b : ℕ) (line tail : List ℕ) → (step default_config (state_at here) b).0 ≡ state.AfterCr → (step default_config (state_at here) b).1 ≡ act.EndRecord
-    → line_from place.AfterReturn line ≡ true → ReadsSame here (b ∷ line) tail
+line_ends : (here : Mode) (b : ℕ) (line tail : List ℕ) → (step default_config (state_at here) b).0 ≡ state.AfterCr → (step default_config (state_at here) b).1 ≡ act.EndRecord
+    → line_from mode.AfterReturn line ≡ true → ReadsSame here (b ∷ line) tail
 line_ends here b line tail e end h fields field =
     rw (return_ends line h, next_end (state_at here) b fields field [] e end, next_end (state_at here) b fields field (10 ∷ tail) e end) (at_return fields field tail)
 
 -- inside a field, or before one that isn't the first
-abbrev pub IsInside : Place → Type 0
-IsInside place.FrameStart = ⊥
-IsInside place.FieldStart = ⊤
-IsInside place.InField = ⊤
-IsInside place.InQuotes = ⊤
-IsInside place.AfterQuote = ⊤
-IsInside place.AfterReturn = ⊥
+abbrev pub IsInside : Mode → Type 0
+IsInside mode.FrameStart = ⊥
+IsInside mode.FieldStart = ⊤
+IsInside mode.InField = ⊤
+IsInside mode.InQuotes = ⊤
+IsInside mode.AfterQuote = ⊤
+IsInside mode.AfterReturn = ⊥
 
--- the reader goes on from the next place as from this one
-one_step : (here next : Place) (b : ℕ) (line tail : List ℕ) → StepsTo next (step default_config (state_at here) b) → line_from next line ≡ true
+-- the reader goes on from the next mode as from this one
+one_step : (here next : Mode) (b : ℕ) (line tail : List ℕ) → StepsTo next (step default_config (state_at here) b) → line_from next line ≡ true
     → (IsInside next → ReadsSame next line tail) → ReadsSame here (b ∷ line) tail
-one_step here place.FrameStart b line tail s h more = absurd s
-one_step here place.FieldStart b line tail s h more = goes_on here place.FieldStart b line tail s.0 s.1 (more tt)
-one_step here place.InField b line tail s h more = goes_on here place.InField b line tail s.0 s.1 (more tt)
-one_step here place.InQuotes b line tail s h more = goes_on here place.InQuotes b line tail s.0 s.1 (more tt)
-one_step here place.AfterQuote b line tail s h more = goes_on here place.AfterQuote b line tail s.0 s.1 (more tt)
-one_step here place.AfterReturn b line tail s h more = line_ends here b line tail s.0 s.1 h
+one_step here mode.FrameStart b line tail s h more = absurd s
+one_step here mode.FieldStart b line tail s h more = goes_on here mode.FieldStart b line tail s.0 s.1 (more tt)
+one_step here mode.InField b line tail s h more = goes_on here mode.InField b line tail s.0 s.1 (more tt)
+one_step here mode.InQuotes b line tail s h more = goes_on here mode.InQuotes b line tail s.0 s.1 (more tt)
+one_step here mode.AfterQuote b line tail s h more = goes_on here mode.AfterQuote b line tail s.0 s.1 (more tt)
+one_step here mode.AfterReturn b line tail s h more = line_ends here b line tail s.0 s.1 h
 
 -- what a line says of its first byte
-pub record FirstByte (here : Place) (b : ℕ) (line : List ℕ) : Type 0 where
-  pub next : Place
-  pub is : place_after here b ≡ Some next
-  pub stays : ends_frame (is_quoted here) b ≡ false
+pub record FirstByte (here : Mode) (b : ℕ) (line : List ℕ) : Type 0 where
+  pub next : Mode
+  pub is : mode_after here b ≡ Some next
+  pub stays : ends_piece (is_quoted here) b ≡ false
   pub more : line_from next line ≡ true
 
-pub some_place : (o : Option Place) (test : Place → Bool) → holds_after o test ≡ true → (next : Place) × (o ≡ Some next) × (test next ≡ true)
-some_place None test h = cc
-some_place (Some next) test h = (next, refl, h)
+pub some_mode : (o : Option Mode) (test : Mode → Bool) → holds_after o test ≡ true → (next : Mode) × (o ≡ Some next) × (test next ≡ true)
+some_mode None test h = cc
+some_mode (Some next) test h = (next, refl, h)
 
-pub first_byte : (here : Place) (b : ℕ) (line : List ℕ) → line_from here (b ∷ line) ≡ true → FirstByte here b line
-first_byte here b line h = elim (ends_frame (is_quoted here) b) as (λ x. ends_frame (is_quoted here) b ≡ x → FirstByte here b line) [
+pub first_byte : (here : Mode) (b : ℕ) (line : List ℕ) → line_from here (b ∷ line) ≡ true → FirstByte here b line
+first_byte here b line h = elim (ends_piece (is_quoted here) b) as (λ x. ends_piece (is_quoted here) b ≡ x → FirstByte here b line) [
   | true ↦ λ e. let no : false ≡ true = rw e at h in cc
   | false ↦ λ e.
-      let found = some_place (place_after here b) (λ next. line_from next line) (rw e at h) in
+      let found = some_mode (mode_after here b) (λ next. line_from next line) (rw e at h) in
       record { next = found.0; is = found.1; stays = e; more = found.2 }
 ] refl
 
@@ -164,33 +164,33 @@ pub and_true : (x : Bool) → (x && true) ≡ false → x ≡ false
 and_true true h = h
 and_true false h = refl
 
-some_is : (a next : Place) → Some a ≡ Some next → a ≡ next
+some_is : (a next : Mode) → Some a ≡ Some next → a ≡ next
 some_is a next e = cc
 
-field_steps : (b : ℕ) (next : Place) → (if b == 34 then None else Some (after_plain b)) ≡ Some next → (b == 10) ≡ false → StepsTo next (step default_config state.InField b)
+field_steps : (b : ℕ) (next : Mode) → (if b == 34 then None else Some (after_plain b)) ≡ Some next → (b == 10) ≡ false → StepsTo next (step default_config state.InField b)
 field_steps b next e other = elim (b == 34) as (λ x. (b == 34) ≡ x → StepsTo next (step default_config state.InField b)) [
   | true ↦ λ q. let no : None ≡ Some next = rw q at e in cc
   | false ↦ λ q. let is : after_plain b ≡ next = some_is (after_plain b) next (rw q at e) in rw (← is) (plain_step b other)
 ] refl
 
-steps_to : (here next : Place) (b : ℕ) → IsInside here → place_after here b ≡ Some next → ends_frame (is_quoted here) b ≡ false → StepsTo next (step default_config (state_at here) b)
-steps_to place.FrameStart next b inside e stays = absurd inside
-steps_to place.FieldStart next b inside e stays = rw (← some_is (after_open b) next e) (quote_step b (and_true (b == 10) stays))
-steps_to place.InField next b inside e stays = field_steps b next e (and_true (b == 10) stays)
-steps_to place.InQuotes next b inside e stays = rw (← some_is (if b == 34 then place.AfterQuote else place.InQuotes) next e) (inner_step b)
-steps_to place.AfterQuote next b inside e stays = rw (← some_is (after_open b) next e) (double_step b (and_true (b == 10) stays))
-steps_to place.AfterReturn next b inside e stays = absurd inside
+steps_to : (here next : Mode) (b : ℕ) → IsInside here → mode_after here b ≡ Some next → ends_piece (is_quoted here) b ≡ false → StepsTo next (step default_config (state_at here) b)
+steps_to mode.FrameStart next b inside e stays = absurd inside
+steps_to mode.FieldStart next b inside e stays = rw (← some_is (after_open b) next e) (quote_step b (and_true (b == 10) stays))
+steps_to mode.InField next b inside e stays = field_steps b next e (and_true (b == 10) stays)
+steps_to mode.InQuotes next b inside e stays = rw (← some_is (if b == 34 then mode.AfterQuote else mode.InQuotes) next e) (inner_step b)
+steps_to mode.AfterQuote next b inside e stays = rw (← some_is (after_open b) next e) (double_step b (and_true (b == 10) stays))
+steps_to mode.AfterReturn next b inside e stays = absurd inside
 
-line_closed : (here : Place) (tail : List ℕ) → IsInside here → line_from here [] ≡ true → ReadsSame here [] tail
+line_closed : (here : Mode) (tail : List ℕ) → IsInside here → line_from here [] ≡ true → ReadsSame here [] tail
 unfolding next_record
-line_closed place.FrameStart tail inside h fields field = absurd inside
-line_closed place.FieldStart tail inside h fields field = at_feed fields field tail
-line_closed place.InField tail inside h fields field = at_feed fields field tail
-line_closed place.InQuotes tail inside h fields field = cc
-line_closed place.AfterQuote tail inside h fields field = at_feed fields field tail
-line_closed place.AfterReturn tail inside h fields field = absurd inside
+line_closed mode.FrameStart tail inside h fields field = absurd inside
+line_closed mode.FieldStart tail inside h fields field = at_feed fields field tail
+line_closed mode.InField tail inside h fields field = at_feed fields field tail
+line_closed mode.InQuotes tail inside h fields field = cc
+line_closed mode.AfterQuote tail inside h fields field = at_feed fields field tail
+line_closed mode.AfterReturn tail inside h fields field = absurd inside
 
-pub line_read : (line : List ℕ) (here : Place) (tail : List ℕ) → IsInside here → line_from here line ≡ true → ReadsSame here line tail
+pub line_read : (line : List ℕ) (here : Mode) (tail : List ℕ) → IsInside here → line_from here line ≡ true → ReadsSame here line tail
 line_read [] here tail inside h = line_closed here tail inside h
 line_read (b ∷ line) here tail inside h =
     let first = first_byte here b line h in

@@ -1,5 +1,5 @@
 -- A reader over a run, before and after it reads a record.
-use Rattle.std.proofs.Common.{◌≡◌, inl, inr, ℕ, Bool, true, false, List, [], Option, Some, None, MatchOption, Result, Ok, Err, MatchResult, IfOk, Bor, refl, ◌∙◌, if◌then◌else◌}
+use Rattle.std.proofs.Common.{◌≡◌, inl, inr, ℕ, Bool, true, false, List, [], ◌∷◌, Option, Some, None, MatchOption, Result, Ok, Err, MatchResult, IfOk, Bor, refl, sym, ap, ◌∙◌, if◌then◌else◌}
 use Rattle.std.proofs.lemmas.Bool.{false≢true, true≢false}
 use Rattle.std.specs.Result.{is_ok}
 use Rattle.csv.specs.Reading.{NextIs, ReadRecord, ReadsNext, Ready, default_config, is_flexible, pending_of, reader_config, reader_state, reader_trim, took_first}
@@ -7,6 +7,7 @@ use Rattle.csv.specs.declared.parser.State.{State}
 use Rattle.csv.specs.declared.parser.State.TheVariants as state
 use Rattle.csv.specs.declared.reader.Trim.TheVariants as trim
 use Rattle.csv_frame.specs.Frames.{frames}
+use Rattle.csv_frame.proofs.PieceLaws.{frames_are}
 use Rattle.csv_runs.specs.Runs.{is_run}
 use Rattle.csv_runs.specs.RunReading.{AtRun, ByteReader, GivesNext, IsSetUp, ReadsRun, from_frame, frames_from, unread, unread_frames}
 use Rattle.csv_runs.proofs.RunLaws.{NextFrame, NoFrame, next_of}
@@ -39,14 +40,18 @@ step_found : (reached to : State) (bytes rest : List ℕ) (found : Bool) (fields
     → NextIs (Some (next.fields, next.to, next.left)) found fields to rest → Steps reached to bytes (Some rest) found fields
 step_found reached to bytes rest found fields next is = rw (is.0, is.1, is.2, is.3) (record {
   at = λ yes. (next.left, refl, next.at);
-  gives = (next.frame, next.splits, next.good);
+  gives = (
+    next.frame,
+    frames_are (from_frame reached bytes) true ∙ next.splits ∙ ap (λ (fs : List (Option (List ℕ))). Some next.frame ∷ fs) (sym (frames_are (from_frame next.to next.left) true)),
+    next.good,
+  );
 })
 
 step_none : (reached to : State) (bytes rest : List ℕ) (found : Bool) (fields : List (List ℕ)) → NoFrame (from_frame reached bytes)
     → found ≡ false → Steps reached to bytes (Some rest) found fields
 step_none reached to bytes rest found fields last is = rw is (record {
   at = λ yes. absurd (false≢true yes);
-  gives = (last.none, refl);
+  gives = (frames_are (from_frame reached bytes) true ∙ last.none, refl);
 })
 
 one_read : (reached to : State) (bytes : List ℕ) (left : Option (List ℕ)) (found : Bool) (fields : List (List ℕ)) → AtRun reached bytes

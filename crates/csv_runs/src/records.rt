@@ -2,7 +2,8 @@
 
 ghost use Rattle.std.specs.Prelude.{◌≡◌, IfOk, option_map};
 ghost use Rattle.csv.specs.Records.{fields_of};
-ghost use Rattle.csv_runs.specs.Records.{good_record, has_even_quotes};
+ghost use Rattle.csv_runs.specs.Records.{good_record};
+ghost use Rattle.csv_frame.specs.Frames.{has_even_quotes};
 
 use csv::{ByteRecord, ReaderBuilder};
 use std::alloc::{AllocError, Global};

@@ -20,10 +20,11 @@ pub struct RunReader<'a> {
 }
 
 impl<'a> Model for RunReader<'a> {
-    ghost use Rattle.std.specs.Prelude.{◌≡◌, ℕ, List, Option, true};
+    ghost use Rattle.std.specs.Prelude.{◌≡◌, List, Option, true};
+    ghost use Rattle.med_prelude.specs.Texts.{Bytes};
     ghost use Rattle.csv_runs.specs.RunReading.{ReadsRun, unread_frames};
 
-    ghost Value = { List (Option (List ℕ)) };
+    ghost Value = { List (Option Bytes) };
 
     ghost view = { λ a. unread_frames a.goes_on a.reader };
 

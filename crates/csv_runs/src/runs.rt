@@ -1,8 +1,10 @@
 //! Runs: leading bytes whose frames one reader of CSV reads as if each were alone.
 
-ghost use Rattle.std.specs.Prelude.{◌≡◌, ◌≤◌, ◌++◌, ℕ, Bool, true, List, length, take, drop};
-ghost use Rattle.csv_frame.specs.Frames.{ends_frame, frames};
-ghost use Rattle.csv_runs.specs.Runs.{is_quoted, is_run, place_after};
+ghost use Rattle.std.specs.Prelude.{◌≡◌, ◌≤◌, ◌++◌, ℕ, Bool, true, length, take, drop};
+ghost use Rattle.csv_frame.specs.Frames.{frames};
+ghost use Rattle.csv_frame.specs.Scanning.{ends_piece};
+ghost use Rattle.med_prelude.specs.Texts.{Bytes};
+ghost use Rattle.csv_runs.specs.Runs.{is_quoted, is_run, mode_after};
 
 use csv_frame::LONGEST_FRAME;
 
@@ -17,9 +19,9 @@ const QUOTE: u8 = b'"';
 // The first byte of a byte order mark.
 const MARK: u8 = 0xEF;
 
-// What a reader is in the middle of.
+// The mode of a reader: what it is in the middle of.
 #[derive(Clone, Copy)]
-enum Place {
+enum Mode {
     FrameStart,
     FieldStart,
     InField,
@@ -29,29 +31,29 @@ enum Place {
     AfterReturn,
 }
 
-impl Place {
+impl Mode {
     #[inline(always)]
     fn ends_frame(self, byte: u8) -> bool
-        ensures { result ≡ ends_frame (is_quoted self) byte }
+        ensures { result ≡ ends_piece (is_quoted self) byte }
     {
-        byte == LINE_FEED && !matches!(self, Place::InQuotes)
+        byte == LINE_FEED && !matches!(self, Mode::InQuotes)
     }
 
-    // Where a byte leads that doesn't end its frame. There is none where a run has to stop.
+    // The mode after a byte that doesn't end its frame. There is none where a run has to stop.
     #[inline(always)]
-    fn after(self, byte: u8) -> Option<Place>
-        ensures { result ≡ place_after self byte }
+    fn after(self, byte: u8) -> Option<Mode>
+        ensures { result ≡ mode_after self byte }
     {
         match self {
-            Place::FrameStart if byte == MARK => None,
-            Place::InField if byte == QUOTE => None,
-            Place::AfterReturn => None,
-            Place::InQuotes if byte == QUOTE => Some(Place::AfterQuote),
-            Place::InQuotes => Some(Place::InQuotes),
-            _ if byte == QUOTE => Some(Place::InQuotes),
-            _ if byte == COMMA => Some(Place::FieldStart),
-            _ if byte == RETURN => Some(Place::AfterReturn),
-            _ => Some(Place::InField),
+            Mode::FrameStart if byte == MARK => None,
+            Mode::InField if byte == QUOTE => None,
+            Mode::AfterReturn => None,
+            Mode::InQuotes if byte == QUOTE => Some(Mode::AfterQuote),
+            Mode::InQuotes => Some(Mode::InQuotes),
+            _ if byte == QUOTE => Some(Mode::InQuotes),
+            _ if byte == COMMA => Some(Mode::FieldStart),
+            _ if byte == RETURN => Some(Mode::AfterReturn),
+            _ => Some(Mode::InField),
         }
     }
 }
@@ -62,20 +64,20 @@ impl Place {
 pub fn run_length(bytes: &[u8]) -> usize
     ensures within { result ≤ length bytes.now }
     ensures run { is_run (take result bytes.now) ≡ true }
-    ensures splits { (more : List ℕ) (ended : Bool) → frames (bytes.now ++ more) ended ≡ frames (take result bytes.now) true ++ frames (drop result bytes.now ++ more) ended }
+    ensures splits { (more : Bytes) (ended : Bool) → frames (bytes.now ++ more) ended ≡ frames (take result bytes.now) true ++ frames (drop result bytes.now ++ more) ended }
     ensures longest { (n : ℕ) → n ≤ length bytes.now → is_run (take n bytes.now) ≡ true → n ≤ result }
 {
     let mut end = 0;
-    let mut place = Place::FrameStart;
+    let mut mode = Mode::FrameStart;
     'bytes: for (at, byte) in bytes.iter().enumerate() {
-        if place.ends_frame(*byte) {
+        if mode.ends_frame(*byte) {
             end = at + 1;
-            place = Place::FrameStart;
+            mode = Mode::FrameStart;
         } else if at - end == LONGEST_FRAME {
             return end;
         } else {
-            match place.after(*byte) {
-                Some(next) => place = next,
+            match mode.after(*byte) {
+                Some(next) => mode = next,
                 None => return end,
             }
         }

@@ -10,8 +10,8 @@ fn has_fields(record: &ByteRecord, fields: &[&[u8]]) -> bool {
     if record.len() != fields.len() {
         return false;
     }
-    for (place, field) in fields.iter().enumerate() {
-        if record.get(place) != Some(*field) {
+    for (index, field) in fields.iter().enumerate() {
+        if record.get(index) != Some(*field) {
             return false;
         }
     }
@@ -28,12 +28,12 @@ fn one_reader_gives_the_record_of_each_frame(rt: HostRuntime) -> Result<(), Fail
     assert_eq!(rt; length, text.len());
     let mut reader = RunReader::new(alloc, &text[..length]);
     let mut record = ByteRecord::new(alloc);
-    for (place, frame) in frames.iter().enumerate() {
-        assert!(rt; reader.next(&mut record)?, "at {place}");
-        assert!(rt; has_fields(&record, records[place]), "at {place}");
+    for (index, frame) in frames.iter().enumerate() {
+        assert!(rt; reader.next(&mut record)?, "at {index}");
+        assert!(rt; has_fields(&record, records[index]), "at {index}");
         match record_of(alloc, frame)? {
-            Some(alone) => assert!(rt; has_fields(&alone, records[place]), "alone at {place}"),
-            None => panic!(rt; "no record at {place}"),
+            Some(alone) => assert!(rt; has_fields(&alone, records[index]), "alone at {index}"),
+            None => panic!(rt; "no record at {index}"),
         }
     }
     assert!(rt; !reader.next(&mut record)?);
@@ -57,8 +57,8 @@ fn a_run_ends_before_a_frame_that_reads_otherwise(rt: HostRuntime) {
         (b"a\rb\nc\n", 0),
         (b"a\n\r\r\nb\n", 2),
     ];
-    for (place, text) in texts.iter().enumerate() {
-        assert_eq!(rt; run_length(text.0), text.1, "at {place}");
+    for (index, text) in texts.iter().enumerate() {
+        assert_eq!(rt; run_length(text.0), text.1, "at {index}");
     }
 }
 

@@ -1,4 +1,4 @@
-use Rattle.std.proofs.Common.{◌≡◌, ◌-◌, ◌+◌, ◌∙◌, [], ap, arith, drop, length, refl, sym, take, ◌≤◌}
+use Rattle.std.proofs.Common.{◌-◌, ◌+◌, ◌∙◌, [], ap, arith, drop, length, refl, sym, take, ◌≤◌}
 use Rattle.std.proofs.lemmas.List.{length-drop, take_rest}
 use Rattle.csv_frame.specs.Frames.{is_blank}
 use Rattle.csv_frame.specs.Holding.{held_of}

@@ -14,13 +14,13 @@ returns-clause-splits c = λ more ended. run_splits c.bytes.end c.args.bytes.now
 pub returns-in-None-clause-longest : goal.returns-in-None-clause-longest
 returns-in-None-clause-longest c = λ n short run.
     let l = c.bytes in
-    run_stops l.at l.end n (l.at - l.end) l.place c.args.bytes.now c.bytes-test.true l.invariant.goes_on
-    (λ more. stops_nowhere (l.at - l.end) (get_or c.args.bytes.now l.at 0) l.place more (sym c.if-ends_frame.ensures) (sym c.in-None.ensures))
+    run_stops l.at l.end n (l.at - l.end) l.mode c.args.bytes.now c.bytes-test.true l.invariant.goes_on
+    (λ more. stops_nowhere (l.at - l.end) (get_or c.args.bytes.now l.at 0) l.mode more (sym c.if-ends_frame.ensures) (sym c.in-None.ensures))
     l.invariant.longest run
 
 pub returns-then-at-end-eq-LONGEST_FRAME-clause-longest : goal.returns-then-at-end-eq-LONGEST_FRAME-clause-longest
 returns-then-at-end-eq-LONGEST_FRAME-clause-longest c = λ n short run.
     let l = c.bytes in
-    run_stops l.at l.end n (l.at - l.end) l.place c.args.bytes.now c.bytes-test.true l.invariant.goes_on
-    (λ more. stops_long (l.at - l.end) (get_or c.args.bytes.now l.at 0) l.place more (sym c.if-ends_frame.ensures) c.if-at-end-eq-LONGEST_FRAME.true)
+    run_stops l.at l.end n (l.at - l.end) l.mode c.args.bytes.now c.bytes-test.true l.invariant.goes_on
+    (λ more. stops_long (l.at - l.end) (get_or c.args.bytes.now l.at 0) l.mode more (sym c.if-ends_frame.ensures) c.if-at-end-eq-LONGEST_FRAME.true)
     l.invariant.longest run

@@ -7,6 +7,6 @@ abbrev pub invariant-bytes : goal.invariant-bytes
 invariant-bytes l = record {
   within : l.end ≤ l.at;
   run : is_run (take l.end l.bytes) ≡ true;
-  goes_on : (more : List ℕ) → is_run (take l.at l.bytes ++ more) ≡ run_from (l.at - l.end) l.place more;
+  goes_on : (more : List ℕ) → is_run (take l.at l.bytes ++ more) ≡ run_from (l.at - l.end) l.mode more;
   longest : (n : ℕ) → n ≤ l.at → is_run (take n l.bytes) ≡ true → n ≤ l.end;
 }
