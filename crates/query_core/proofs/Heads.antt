@@ -13,23 +13,24 @@ use Rattle.row_match.specs.Patterns.{values_join}
 use Rattle.row_match.specs.declared.filter.Comparison.{Comparison}
 use Rattle.tuple_core.specs.Distinct.{AreSortedDistinct}
 use Rattle.tuple_core.specs.Order.{row_eq, rows_decided}
+use Rattle.tuple_core.specs.Values.{RowList, RowValues}
 use Rattle.tuple_core.specs.declared.value.Value.{Value}
 use Rattle.query_core.specs.Answers.{item_fits, item_entries, items, choices, binding_at, head_row, heads, ordered_rows, solutions_of}
 use Rattle.query_core.specs.declared.query.Atom.{Atom}
 use Rattle.query_core.proofs.Sorting.{only_sorted_rows}
 
-pub bindings_solutions : (atoms : List Atom) (comparisons : List Comparison) (arrivals : List (List (List Value)))
+pub bindings_solutions : (atoms : List Atom) (comparisons : List Comparison) (arrivals : List RowList)
     → map (binding_at atoms arrivals) (choices atoms comparisons arrivals) ≡ solutions_of atoms comparisons arrivals
 bindings_solutions atoms comparisons arrivals = choices_solutions values_join item_fits item_entries (all_hold comparisons) (items atoms arrivals)
 
-pub heads_solutions : (head : List ℕ) (atoms : List Atom) (comparisons : List Comparison) (arrivals : List (List (List Value)))
+pub heads_solutions : (head : List ℕ) (atoms : List Atom) (comparisons : List Comparison) (arrivals : List RowList)
     → heads head atoms comparisons arrivals ≡ map (head_row head) (solutions_of atoms comparisons arrivals)
 heads_solutions head atoms comparisons arrivals =
     sym (map_map (head_row head) (binding_at atoms arrivals) (choices atoms comparisons arrivals))
     ∙ ap (map (head_row head)) (bindings_solutions atoms comparisons arrivals)
 
 -- the head of what a row says of each variable
-abbrev head_of_values : List ℕ → (ℕ → Option Value) → List Value
+abbrev head_of_values : List ℕ → (ℕ → Option Value) → RowValues
 head_of_values head value = filter_map value head
 
 pub same_heads : (head : List ℕ) (found solved : List (Binding Value)) → SameBag (valuations found) (valuations solved) → SameBag (map (head_row head) found) (map (head_row head) solved)
@@ -38,7 +39,7 @@ same_heads head found solved h = bag_trans
     (bag_trans (bag_map (head_of_values head) h) (bag_from_same (map_map (head_of_values head) value_of solved)))
 
 -- the same bag of rows has one list of its distinct rows in order
-pub same_order : (xs ys sorted : List (List Value)) → SameBag xs ys → AreSortedDistinct xs sorted → sorted ≡ ordered_rows ys
+pub same_order : (xs ys sorted : RowList) → SameBag xs ys → AreSortedDistinct xs sorted → sorted ≡ ordered_rows ys
 same_order xs ys sorted same h = only_sorted_rows ys sorted (record {
   ascending = h.ascending;
   keeps = λ row i. h.keeps row (bag_contains row_eq (λ x y. (rows_decided x y).0) (λ x. (rows_decided x x).1 refl) (bag_sym same) row i);

@@ -6,7 +6,8 @@ use Rattle.answer_theory.specs.Bindings.{Binding, consistent, first_entries, val
 use Rattle.answer_theory.specs.Choices.{fitting_rows, index_lists, items_at}
 use Rattle.answer_theory.specs.Solutions.{solutions}
 use Rattle.tuple_core.specs.RowText.{rows_text}
-use Rattle.tuple_core.specs.Values.{row_cmp}
+use Rattle.med_prelude.specs.Texts.{Bytes}
+use Rattle.tuple_core.specs.Values.{RowList, RowValues, row_cmp}
 use Rattle.tuple_core.specs.declared.value.Value.{Value}
 use Rattle.row_match.specs.Filters.{all_hold}
 use Rattle.row_match.specs.Patterns.{fits, entries_of, values_join}
@@ -17,7 +18,7 @@ use Rattle.query_core.specs.declared.query.Query.{Query}
 
 -- a row, with the terms of the atom that it came for
 abbrev pub Item : Type 0
-Item = List Term × List Value
+Item = List Term × RowValues
 
 -- each constant of the atom is its column's value
 abbrev pub item_fits : Item → Bool
@@ -37,37 +38,37 @@ abbrev pub agrees : List Item → List Comparison → Bool
 agrees rows comparisons = list_all item_fits rows && (consistent values_join (all_entries rows) && all_hold comparisons (first_entries (all_entries rows)))
 
 -- the rows that came for an atom, each with the atom's terms
-abbrev pub items_of : Atom → List (List Value) → List Item
+abbrev pub items_of : Atom → RowList → List Item
 items_of atom rows = map (λ row. (atom.terms, row)) rows
 
 -- the rows that came for each atom; an atom without a list has none
-abbrev pub items : List Atom → List (List (List Value)) → List (List Item)
+abbrev pub items : List Atom → List RowList → List (List Item)
 items [] arrivals = []
 items (atom ∷ atoms) [] = [] ∷ items atoms []
 items (atom ∷ atoms) (rows ∷ arrivals) = items_of atom rows ∷ items atoms arrivals
 
 -- the rows of a choice: one of each atom, by its index among those that came for the atom
-abbrev pub rows_at : List Atom → List (List (List Value)) → List ℕ → List Item
+abbrev pub rows_at : List Atom → List RowList → List ℕ → List Item
 rows_at atoms arrivals indices = items_at (items atoms arrivals) indices
 
 -- The choices: the lists of indices, one for each atom, whose rows agree.
-abbrev pub choices : List Atom → List Comparison → List (List (List Value)) → List (List ℕ)
+abbrev pub choices : List Atom → List Comparison → List RowList → List (List ℕ)
 choices atoms comparisons arrivals = filter (λ indices. agrees (rows_at atoms arrivals indices) comparisons) (index_lists (items atoms arrivals))
 
 -- what the rows of a choice bind, each variable once
-abbrev pub binding_at : List Atom → List (List (List Value)) → List ℕ → Binding Value
+abbrev pub binding_at : List Atom → List RowList → List ℕ → Binding Value
 binding_at atoms arrivals indices = first_entries (all_entries (rows_at atoms arrivals indices))
 
 -- the values of the head's variables
-abbrev pub head_row : List ℕ → Binding Value → List Value
+abbrev pub head_row : List ℕ → Binding Value → RowValues
 head_row head binding = filter_map (value_of binding) head
 
 -- the head's values over each choice
-abbrev pub heads : List ℕ → List Atom → List Comparison → List (List (List Value)) → List (List Value)
+abbrev pub heads : List ℕ → List Atom → List Comparison → List RowList → RowList
 heads head atoms comparisons arrivals = map (λ indices. head_row head (binding_at atoms arrivals indices)) (choices atoms comparisons arrivals)
 
 -- rows in order with one more, unless it stands there already
-abbrev pub rows_with : List Value → List (List Value) → List (List Value)
+abbrev pub rows_with : RowValues → RowList → RowList
 rows_with row [] = row ∷ []
 rows_with row (other ∷ rows) = elim (row_cmp row other) [
   | Less ↦ row ∷ other ∷ rows
@@ -76,26 +77,26 @@ rows_with row (other ∷ rows) = elim (row_cmp row other) [
 ]
 
 -- the rows in their order, each once
-abbrev pub ordered_rows : List (List Value) → List (List Value)
+abbrev pub ordered_rows : RowList → RowList
 ordered_rows [] = []
 ordered_rows (row ∷ rows) = rows_with row (ordered_rows rows)
 
 -- The answer: the distinct heads of the choices, in their order.
-abbrev pub answer : List ℕ → List Atom → List Comparison → List (List (List Value)) → List (List Value)
+abbrev pub answer : List ℕ → List Atom → List Comparison → List RowList → RowList
 answer head atoms comparisons arrivals = ordered_rows (heads head atoms comparisons arrivals)
 
 -- the answer of a whole query
-abbrev pub answer_of : Query → List (List (List Value)) → List (List Value)
+abbrev pub answer_of : Query → List RowList → RowList
 answer_of query arrivals = answer query.head query.atoms query.comparisons arrivals
 
 -- its text: a line of CSV for each row
-abbrev pub answer_text : Query → List (List (List Value)) → List ℕ
+abbrev pub answer_text : Query → List RowList → Bytes
 answer_text query arrivals = rows_text (answer_of query arrivals)
 
 -- what each row of each atom binds, where the atom's constants are the row's: the leaves of joins
-abbrev pub leaf_rows : List Atom → List (List (List Value)) → List (List (Binding Value))
+abbrev pub leaf_rows : List Atom → List RowList → List (List (Binding Value))
 leaf_rows atoms arrivals = map (fitting_rows item_fits item_entries) (items atoms arrivals)
 
 -- what the choices bind, as joins find it: one row of each leaf, in each way, where these agree
-abbrev pub solutions_of : List Atom → List Comparison → List (List (List Value)) → List (Binding Value)
+abbrev pub solutions_of : List Atom → List Comparison → List RowList → List (Binding Value)
 solutions_of atoms comparisons arrivals = solutions values_join (all_hold comparisons) (leaf_rows atoms arrivals)

@@ -8,35 +8,36 @@ ghost use Rattle.query_core.specs.Answers.{answer, binding_at, choices, head_row
 ghost use Rattle.query_core.specs.declared.query.Atom.{Atom as AnAtom};
 ghost use Rattle.row_match.specs.declared.filter.Comparison.{Comparison as AComparison};
 ghost use Rattle.tuple_core.specs.Distinct.{AreSortedDistinct};
+ghost use Rattle.tuple_core.specs.Values.{RowList};
 ghost use Rattle.tuple_core.specs.declared.value.Value.{Value as AValue};
 
 /// The answer is strictly sorted and has the same rows as the heads of the choices; and only one list is so.
 pub fn one_answer()
-    ensures is { (head : List ℕ) (atoms : List AnAtom) (comparisons : List AComparison) (arrivals : List (List (List AValue)))
+    ensures is { (head : List ℕ) (atoms : List AnAtom) (comparisons : List AComparison) (arrivals : List RowList)
         → AreSortedDistinct (heads head atoms comparisons arrivals) (answer head atoms comparisons arrivals) }
-    ensures only { (head : List ℕ) (atoms : List AnAtom) (comparisons : List AComparison) (arrivals : List (List (List AValue)))
-        (rows : List (List AValue))
+    ensures only { (head : List ℕ) (atoms : List AnAtom) (comparisons : List AComparison) (arrivals : List RowList)
+        (rows : RowList)
         → AreSortedDistinct (heads head atoms comparisons arrivals) rows → rows ≡ answer head atoms comparisons arrivals }
 {}
 
 /// What the choices bind, in their order, are the solutions over the atoms' leaves; and the heads are those of the
 /// solutions.
 pub fn heads_of_solutions()
-    ensures bindings { (atoms : List AnAtom) (comparisons : List AComparison) (arrivals : List (List (List AValue)))
+    ensures bindings { (atoms : List AnAtom) (comparisons : List AComparison) (arrivals : List RowList)
         → map (binding_at atoms arrivals) (choices atoms comparisons arrivals) ≡ solutions_of atoms comparisons arrivals }
-    ensures heads { (head : List ℕ) (atoms : List AnAtom) (comparisons : List AComparison) (arrivals : List (List (List AValue)))
+    ensures heads { (head : List ℕ) (atoms : List AnAtom) (comparisons : List AComparison) (arrivals : List RowList)
         → heads head atoms comparisons arrivals ≡ map (head_row head) (solutions_of atoms comparisons arrivals) }
 {}
 
 /// Rows that give each variable the same values as the solutions, each as often, have the same heads, each as often;
 /// and the heads in order, each once, are the answer.
 pub fn same_values_answer()
-    ensures heads { (head : List ℕ) (atoms : List AnAtom) (comparisons : List AComparison) (arrivals : List (List (List AValue)))
+    ensures heads { (head : List ℕ) (atoms : List AnAtom) (comparisons : List AComparison) (arrivals : List RowList)
         (found : List (Binding AValue))
         → SameBag (valuations found) (valuations (solutions_of atoms comparisons arrivals))
         → SameBag (map (head_row head) found) (heads head atoms comparisons arrivals) }
-    ensures answer { (head : List ℕ) (atoms : List AnAtom) (comparisons : List AComparison) (arrivals : List (List (List AValue)))
-        (found rows : List (List AValue))
+    ensures answer { (head : List ℕ) (atoms : List AnAtom) (comparisons : List AComparison) (arrivals : List RowList)
+        (found rows : RowList)
         → SameBag found (heads head atoms comparisons arrivals) → AreSortedDistinct found rows
         → rows ≡ answer head atoms comparisons arrivals }
 {}

@@ -1,6 +1,7 @@
 -- What a pattern keeps beside its terms, and how a row's values are taken one after another.
 use Rattle.std.specs.Prelude.{◌≡◌, ℕ, cond, List, [], ◌∷◌, ◌++◌, map, Option, Some, None, slice_get}
 use Rattle.answer_theory.specs.Rows.{both_join}
+use Rattle.tuple_core.specs.Values.{RowValues}
 use Rattle.tuple_core.specs.declared.value.Value.{Value}
 use Rattle.row_match.specs.Patterns.{position_of, values_join, pattern_variables}
 use Rattle.row_match.specs.declared.pattern.ColumnTerm.{ColumnTerm}
@@ -36,11 +37,11 @@ pub record IsPrepared (columns : List ColumnTerm) (variables : List ℕ) : Type 
   pub positions : columns ≡ prepared_columns [] (terms_of columns)
   pub named : variables ≡ pattern_variables (terms_of columns)
 
-abbrev pub kept_after_term : Term → Option ℕ → Value → List Value → Option (List Value)
+abbrev pub kept_after_term : Term → Option ℕ → Value → RowValues → Option RowValues
 kept_after_term (term.Constant c) position x kept = cond (values_join x c) (Some kept) None
 kept_after_term (term.Variable v) None x kept = Some (kept ++ x ∷ [])
 kept_after_term (term.Variable v) (Some position) x kept = cond (both_join values_join (Some x) (slice_get kept position)) (Some kept) None
 
 -- the kept values after one more column, where it agrees
-abbrev pub kept_after : ColumnTerm → Value → List Value → Option (List Value)
+abbrev pub kept_after : ColumnTerm → Value → RowValues → Option RowValues
 kept_after column x kept = kept_after_term column.term column.position x kept

@@ -2,12 +2,12 @@
 
 ghost use Rattle.std.specs.Prelude.{◌≡◌, length, option_map};
 ghost use Rattle.std.specs.List.{list_all};
-ghost use Rattle.answer_theory.specs.Bindings.{value_of};
 ghost use Rattle.answer_theory.specs.Rows.{over};
 ghost use Rattle.row_match.specs.Filters.{side_value, holds_in, all_hold};
 
 use crate::pattern::Term;
-use crate::vars::{Vars, position_of, value_at};
+use crate::valuation::{RowOver, Valuation};
+use crate::vars::Vars;
 use std::marker::Model;
 use tuple_core::{Op, Row, Value, compare};
 
@@ -34,47 +34,34 @@ impl Model for Filter {
     ghost view = { λ f. record { vars = f.vars; comparisons = f.comparisons.items } };
 }
 
-// The variable's value in a row.
-fn value_of<'a>(variable: u32, vars: &[u32], row: &'a [Value]) -> Option<&'a Value>
-    requires { length row.now ≡ length vars.now }
-    ensures { option_map (λ v. v.now) result ≡ value_of (over vars.now row.now) variable }
-{
-    match position_of(vars, variable) {
-        Some(position) => value_at(row, position),
-        None => None,
-    }
-}
-
-fn side<'a>(term: &'a Term, vars: &[u32], row: &'a [Value]) -> Option<&'a Value>
-    requires { length row.now ≡ length vars.now }
-    ensures { option_map (λ v. v.now) result ≡ side_value term.now (over vars.now row.now) }
+fn side<'a, V: Valuation>(term: &'a Term, valuation: &'a V) -> Option<&'a Value>
+    ensures { option_map (λ v. v.now) result ≡ side_value term.now (V.binding valuation.now) }
 {
     match term {
         Term::Constant(constant) => Some(constant),
-        Term::Variable(variable) => value_of(*variable, vars, row),
+        Term::Variable(variable) => valuation.value_of(*variable),
     }
 }
 
-fn passes(comparison: &Comparison, vars: &[u32], row: &[Value]) -> bool
-    requires { length row.now ≡ length vars.now }
-    ensures { result ≡ holds_in comparison.now (over vars.now row.now) }
+fn passes<V: Valuation>(comparison: &Comparison, valuation: &V) -> bool
+    ensures { result ≡ holds_in comparison.now (V.binding valuation.now) }
 {
     match (
-        side(&comparison.left, vars, row),
-        side(&comparison.right, vars, row),
+        side(&comparison.left, valuation),
+        side(&comparison.right, valuation),
     ) {
         (Some(left), Some(right)) => compare(comparison.op, left, right),
         _ => false,
     }
 }
 
-fn all_pass(comparisons: &[Comparison], vars: &[u32], row: &[Value]) -> bool
-    requires { length row.now ≡ length vars.now }
-    ensures { result ≡ all_hold comparisons.now (over vars.now row.now) }
+/// Whether each comparison holds of the values that the variables have.
+pub fn all_hold<V: Valuation>(comparisons: &[Comparison], valuation: &V) -> bool
+    ensures { result ≡ all_hold comparisons.now (V.binding valuation.now) }
 {
     comparisons
         .iter()
-        .all(|comparison| passes(comparison, vars, row))
+        .all(|comparison| passes(comparison, valuation))
 }
 
 impl Filter {
@@ -90,8 +77,10 @@ impl Filter {
         requires width { length row.now ≡ length self.now.vars }
         ensures { result ≡ all_hold self.now.comparisons (over self.now.vars row.now) }
     {
-        let vars = self.vars.as_slice();
-        let values = row.values();
-        all_pass(self.comparisons.as_slice(), vars, values)
+        let row = RowOver {
+            variables: self.vars.as_slice(),
+            values: row.values(),
+        };
+        all_hold(self.comparisons.as_slice(), &row)
     }
 }

@@ -9,10 +9,12 @@ mod pattern;
 mod shape;
 #[cfg(test)]
 mod tests;
+mod valuation;
 mod vars;
 
-pub use filter::{Comparison, Filter};
+pub use filter::{Comparison, Filter, all_hold};
 pub use laws::{filters_read, keys_tell, matched_rows_bind};
 pub use pattern::{Pattern, Term};
 pub use shape::{JoinShape, Side};
+pub use valuation::Valuation;
 pub use vars::Vars;

@@ -61,7 +61,7 @@ fn position_for(variables: &mut Vec<u32>, term: &Term) -> Result<Option<usize>, 
 
 impl Pattern {
     pub fn new(alloc: Global, terms: Vec<Term>) -> Result<Self, AllocError>
-        requires short { length terms.items ≤ 64 }
+        requires short { length terms.items ≤ Vars.MOST }
         ensures { IfOk result (λ pattern. pattern ≡ terms.items) }
     {
         let mut variables = Vec::new(alloc);

@@ -151,7 +151,7 @@ fn appended(alloc: Global, left: &[u32], right: &[u32]) -> Result<Vec<u32>, Allo
 
 impl JoinShape {
     pub fn new(alloc: Global, left: &Vars, right: &Vars) -> Result<JoinShape, AllocError>
-        requires short { length (glued_variables left.now right.now) ≤ 64 }
+        requires short { length (glued_variables left.now right.now) ≤ Vars.MOST }
         ensures left { IfOk result (λ shape. shape.left ≡ left.now) }
         ensures right { IfOk result (λ shape. shape.right ≡ right.now) }
     {
@@ -189,7 +189,7 @@ impl JoinShape {
 
     fn key_positions(&self, side: Side) -> &[usize]
         ensures positions { result.now ≡ key_positions side self.now }
-        ensures short { length (glued_variables self.now.left self.now.right) ≤ 64 }
+        ensures short { length (glued_variables self.now.left self.now.right) ≤ Vars.MOST }
     {
         match side {
             Side::Left => self.left_key.as_slice(),

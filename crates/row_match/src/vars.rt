@@ -31,7 +31,7 @@ impl Vars {
 
     pub fn new(variables: Vec<u32>) -> Self
         requires distinct { AreDistinct variables.items }
-        requires short { length variables.items ≤ 64 }
+        requires short { length variables.items ≤ Self.MOST }
         ensures { result ≡ variables.items }
     {
         Vars { variables }
@@ -40,7 +40,7 @@ impl Vars {
     pub fn as_slice(&self) -> &[u32]
         ensures value { result.now ≡ self.now }
         ensures distinct { AreDistinct self.now }
-        ensures short { length self.now ≤ 64 }
+        ensures short { length self.now ≤ Self.MOST }
     {
         self.variables.as_slice()
     }
