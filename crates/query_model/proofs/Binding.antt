@@ -1,4 +1,4 @@
--- How a row's places are bound, one column after another.
+-- How a row's entries are bound, one column after another.
 use Rattle.std.proofs.Common.{◌≡◌, ℕ, ◌==◌, ◌≤◌, Bool, true, false, not, ◌&&◌, ◌||◌, List, [], ◌∷◌, ◌++◌, length, take, ◌⊎◌, ⊎_elim, refl, sym, ap, ap₂, subst, ◌∙◌, append_assoc, append-nil, arith, suc, ◌+◌, ◌-◌, ◌<◌, min, drop, get_or, inl, inr}
 use Rattle.std.proofs.lemmas.Bool.{and_parts}
 use Rattle.std.proofs.Math.Seq.{drop-cons, take-length}
@@ -6,30 +6,30 @@ use Rattle.std.proofs.lemmas.List.{take-append-le, length-take, length-drop}
 use Rattle.answer_theory.specs.Bindings.{Binding, meet, consistent}
 use Rattle.answer_theory.proofs.Bindings.{consistent_append}
 use Rattle.answer_theory.proofs.Bools.{and_true}
-use Rattle.row_match.specs.Patterns.{fits, places_of, values_join}
+use Rattle.row_match.specs.Patterns.{fits, entries_of, values_join}
 use Rattle.row_match.specs.declared.pattern.Term.{Term}
 use Rattle.row_match.specs.declared.pattern.Term.TheVariants as term
 use Rattle.tuple_core.specs.declared.value.Value.{Value}
-use Rattle.query_model.specs.Walks.{all_agree, agrees_with, binding_of}
-use Rattle.query_model.specs.declared.places.Place.{Place}
+use Rattle.query_model.specs.Walks.{entries_agree, agrees_with, binding_of}
+use Rattle.query_model.specs.declared.entries.Entry.{Entry}
 
--- ---- one more place
+-- ---- one more entry
 
-meets_one : (places : List Place) (v : ℕ) (x : Value) → meet values_join (binding_of places) ((v, x) ∷ []) ≡ all_agree places v x
+meets_one : (entries : List Entry) (v : ℕ) (x : Value) → meet values_join (binding_of entries) ((v, x) ∷ []) ≡ entries_agree entries v x
 meets_one [] v x = refl
-meets_one (p ∷ places) v x = ap₂ (λ s t. s && t) (and_true (not (p.variable == v) || values_join p.value.now x)) (meets_one places v x)
+meets_one (p ∷ entries) v x = ap₂ (λ s t. s && t) (and_true (not (p.variable == v) || values_join p.value.now x)) (meets_one entries v x)
 
-pub agrees_one : (places : List Place) (v : ℕ) (x : Value) → consistent values_join (binding_of places) ≡ true
-    → all_agree places v x ≡ agrees_with (binding_of places) (term.Variable v ∷ []) (x ∷ [])
-agrees_one places v x e = sym (
-    consistent_append values_join (binding_of places) ((v, x) ∷ [])
-    ∙ ap₂ (λ s t. (s && true) && t) e (meets_one places v x))
+pub agrees_one : (entries : List Entry) (v : ℕ) (x : Value) → consistent values_join (binding_of entries) ≡ true
+    → entries_agree entries v x ≡ agrees_with (binding_of entries) (term.Variable v ∷ []) (x ∷ [])
+agrees_one entries v x e = sym (
+    consistent_append values_join (binding_of entries) ((v, x) ∷ [])
+    ∙ ap₂ (λ s t. (s && true) && t) e (meets_one entries v x))
 
 -- ---- one more column
 
-places_cons : (t : Term) (ts : List Term) (x : Value) (xs : List Value) → places_of (t ∷ ts) (x ∷ xs) ≡ places_of (t ∷ []) (x ∷ []) ++ places_of ts xs
-places_cons (term.Constant c) ts x xs = refl
-places_cons (term.Variable v) ts x xs = refl
+entries_cons : (t : Term) (ts : List Term) (x : Value) (xs : List Value) → entries_of (t ∷ ts) (x ∷ xs) ≡ entries_of (t ∷ []) (x ∷ []) ++ entries_of ts xs
+entries_cons (term.Constant c) ts x xs = refl
+entries_cons (term.Variable v) ts x xs = refl
 
 fits_cons : (t : Term) (ts : List Term) (x : Value) (xs : List Value) → fits (t ∷ ts) (x ∷ xs) ≡ (fits (t ∷ []) (x ∷ []) && fits ts xs)
 fits_cons (term.Constant c) ts x xs = ap (λ s. s && fits ts xs) (sym (and_true (values_join x c)))
@@ -39,16 +39,16 @@ pub inconsistent : {X : Type 0} (joins : X → X → Bool) (b c : Binding X) →
 inconsistent joins b c e = consistent_append joins b c ∙ ap (λ t. (t && consistent joins c) && meet joins b c) e
 
 agrees_cons : (b : Binding Value) (t : Term) (ts : List Term) (x : Value) (xs : List Value)
-    → agrees_with b (t ∷ ts) (x ∷ xs) ≡ (agrees_with b (t ∷ []) (x ∷ []) && agrees_with (b ++ places_of (t ∷ []) (x ∷ [])) ts xs)
+    → agrees_with b (t ∷ ts) (x ∷ xs) ≡ (agrees_with b (t ∷ []) (x ∷ []) && agrees_with (b ++ entries_of (t ∷ []) (x ∷ [])) ts xs)
 agrees_cons b t ts x xs =
-    ap₂ (λ s c. s && consistent values_join c) (fits_cons t ts x xs) (ap (λ c. b ++ c) (places_cons t ts x xs) ∙ sym (append_assoc b here more))
+    ap₂ (λ s c. s && consistent values_join c) (fits_cons t ts x xs) (ap (λ c. b ++ c) (entries_cons t ts x xs) ∙ sym (append_assoc b here more))
     ∙ go (fits (t ∷ []) (x ∷ [])) (fits ts xs) (consistent values_join (b ++ here)) (consistent values_join ((b ++ here) ++ more)) (inconsistent values_join (b ++ here) more)
   where
     here : Binding Value
-    here = places_of (t ∷ []) (x ∷ [])
+    here = entries_of (t ∷ []) (x ∷ [])
 
     more : Binding Value
-    more = places_of ts xs
+    more = entries_of ts xs
 
     go : (f g c d : Bool) → (c ≡ false → d ≡ false) → ((f && g) && d) ≡ ((f && c) && (g && d))
     go true g true d h = refl
@@ -61,7 +61,7 @@ agrees_cons b t ts x xs =
 long : {X : Type 0} (xs ys : List X) → take (length xs) ys ≡ xs → length xs ≤ length ys
 long {X} xs ys e = omega (arith, length-take {A = X}, ap length e)
 
-nothing_left : (ts : List Term) (xs : List Value) → (ts ≡ []) ⊎ (xs ≡ []) → (fits ts xs ≡ true) × (places_of ts xs ≡ [])
+nothing_left : (ts : List Term) (xs : List Value) → (ts ≡ []) ⊎ (xs ≡ []) → (fits ts xs ≡ true) × (entries_of ts xs ≡ [])
 nothing_left [] xs h = (refl, refl)
 nothing_left (t ∷ ts) [] h = (refl, refl)
 nothing_left (t ∷ ts) (x ∷ xs) h = absurd (⊎_elim (λ e. cc) (λ e. cc) h)
@@ -70,7 +70,7 @@ nothing_left (t ∷ ts) (x ∷ xs) h = absurd (⊎_elim (λ e. cc) (λ e. cc) h)
 pub record IsBoundSoFar (old : Binding Value) (terms : List Term) (row : List Value) (b : Binding Value) (ts : List Term) (xs : List Value) : Type 0 where
   pub agree : consistent values_join b ≡ true
   pub rest : agrees_with b ts xs ≡ agrees_with old terms row
-  pub all : b ++ places_of ts xs ≡ old ++ places_of terms row
+  pub all : b ++ entries_of ts xs ≡ old ++ entries_of terms row
   pub kept : take (length old) b ≡ old
 
 pub bound_none : (old : Binding Value) (terms : List Term) (row : List Value) → consistent values_join old ≡ true → IsBoundSoFar old terms row old terms row
@@ -78,23 +78,23 @@ bound_none old terms row e = record { agree = e; rest = refl; all = refl; kept =
 
 pub bound_more : (old : Binding Value) (terms : List Term) (row : List Value) (b : Binding Value) (t : Term) (ts : List Term) (x : Value) (xs : List Value)
     → IsBoundSoFar old terms row b (t ∷ ts) (x ∷ xs) → agrees_with b (t ∷ []) (x ∷ []) ≡ true
-    → IsBoundSoFar old terms row (b ++ places_of (t ∷ []) (x ∷ [])) ts xs
+    → IsBoundSoFar old terms row (b ++ entries_of (t ∷ []) (x ∷ [])) ts xs
 bound_more old terms row b t ts x xs h e = record {
-  agree = (and_parts (fits (t ∷ []) (x ∷ [])) (consistent values_join (b ++ places_of (t ∷ []) (x ∷ []))) e).1;
-  rest = sym (agrees_cons b t ts x xs ∙ ap (λ s. s && agrees_with (b ++ places_of (t ∷ []) (x ∷ [])) ts xs) e) ∙ h.rest;
-  all = append_assoc b (places_of (t ∷ []) (x ∷ [])) (places_of ts xs) ∙ (ap (λ c. b ++ c) (sym (places_cons t ts x xs)) ∙ h.all);
-  kept = take-append-le (length old) b (places_of (t ∷ []) (x ∷ [])) (long old b h.kept) ∙ h.kept;
+  agree = (and_parts (fits (t ∷ []) (x ∷ [])) (consistent values_join (b ++ entries_of (t ∷ []) (x ∷ []))) e).1;
+  rest = sym (agrees_cons b t ts x xs ∙ ap (λ s. s && agrees_with (b ++ entries_of (t ∷ []) (x ∷ [])) ts xs) e) ∙ h.rest;
+  all = append_assoc b (entries_of (t ∷ []) (x ∷ [])) (entries_of ts xs) ∙ (ap (λ c. b ++ c) (sym (entries_cons t ts x xs)) ∙ h.all);
+  kept = take-append-le (length old) b (entries_of (t ∷ []) (x ∷ [])) (long old b h.kept) ∙ h.kept;
 }
 
 pub bound_stops : (old : Binding Value) (terms : List Term) (row : List Value) (b : Binding Value) (t : Term) (ts : List Term) (x : Value) (xs : List Value)
     → IsBoundSoFar old terms row b (t ∷ ts) (x ∷ xs) → agrees_with b (t ∷ []) (x ∷ []) ≡ false → agrees_with old terms row ≡ false
-bound_stops old terms row b t ts x xs h e = sym h.rest ∙ (agrees_cons b t ts x xs ∙ ap (λ s. s && agrees_with (b ++ places_of (t ∷ []) (x ∷ [])) ts xs) e)
+bound_stops old terms row b t ts x xs h e = sym h.rest ∙ (agrees_cons b t ts x xs ∙ ap (λ s. s && agrees_with (b ++ entries_of (t ∷ []) (x ∷ [])) ts xs) e)
 
 pub bound_all : (old : Binding Value) (terms : List Term) (row : List Value) (b : Binding Value) (ts : List Term) (xs : List Value)
-    → IsBoundSoFar old terms row b ts xs → (ts ≡ []) ⊎ (xs ≡ []) → (agrees_with old terms row ≡ true) × (b ≡ old ++ places_of terms row)
+    → IsBoundSoFar old terms row b ts xs → (ts ≡ []) ⊎ (xs ≡ []) → (agrees_with old terms row ≡ true) × (b ≡ old ++ entries_of terms row)
 bound_all old terms row b ts xs h left =
     let none = nothing_left ts xs left in
-    let all : b ≡ b ++ places_of ts xs = sym (ap (λ c. b ++ c) none.1 ∙ append-nil b) in
+    let all : b ≡ b ++ entries_of ts xs = sym (ap (λ c. b ++ c) none.1 ∙ append-nil b) in
     (sym h.rest ∙ ap₂ (λ f c. f && consistent values_join c) none.0 (sym all) ∙ h.agree, all ∙ h.all)
 
 -- ---- the same by the number of columns that are done
@@ -107,14 +107,14 @@ module _ (old : Binding Value) (terms : List Term) (row : List Value) (b : Bindi
   here : IsBoundSoFar old terms row b (t ∷ drop (k + 1) terms) (x ∷ drop (k + 1) row)
   here = subst (λ xs. IsBoundSoFar old terms row b (t ∷ drop (k + 1) terms) xs) (drop_at row k x inside.1 inside.3) (subst (λ ts. IsBoundSoFar old terms row b ts (drop k row)) (drop_at terms k t inside.0 inside.2) h)
 
-  pub more_at : (new : Binding Value) → agrees_with b (t ∷ []) (x ∷ []) ≡ true → new ≡ b ++ places_of (t ∷ []) (x ∷ []) → IsBoundSoFar old terms row new (drop (k + 1) terms) (drop (k + 1) row)
+  pub more_at : (new : Binding Value) → agrees_with b (t ∷ []) (x ∷ []) ≡ true → new ≡ b ++ entries_of (t ∷ []) (x ∷ []) → IsBoundSoFar old terms row new (drop (k + 1) terms) (drop (k + 1) row)
   more_at new e n = rw n (bound_more old terms row b t (drop (k + 1) terms) x (drop (k + 1) row) here e)
 
   pub stops_at : agrees_with b (t ∷ []) (x ∷ []) ≡ false → agrees_with old terms row ≡ false
   stops_at e = bound_stops old terms row b t (drop (k + 1) terms) x (drop (k + 1) row) here e
 
 pub ends_at : (old : Binding Value) (terms : List Term) (row : List Value) (b : Binding Value) (k : ℕ) → IsBoundSoFar old terms row b (drop k terms) (drop k row)
-    → k ≡ min (length terms) (length row) → (agrees_with old terms row ≡ true) × (b ≡ old ++ places_of terms row)
+    → k ≡ min (length terms) (length row) → (agrees_with old terms row ≡ true) × (b ≡ old ++ entries_of terms row)
 ends_at old terms row b k h e = bound_all old terms row b (drop k terms) (drop k row) h (left (drop k terms) (drop k row) (length-drop k terms) (length-drop k row))
   where
     left : (ts : List Term) (xs : List Value) → length ts ≡ length terms - k → length xs ≡ length row - k → (ts ≡ []) ⊎ (xs ≡ [])

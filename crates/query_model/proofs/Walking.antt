@@ -5,94 +5,94 @@ use Rattle.std.proofs.Math.Seq.{drop-cons}
 use Rattle.std.proofs.lemmas.Bool.{and_parts}
 use Rattle.std.proofs.lemmas.List.{drop_all, length-map, take-map}
 use Rattle.std.specs.List.{filter_map, AllByRecursion}
-use Rattle.answer_theory.specs.Bindings.{Binding, consistent, firsts}
-use Rattle.answer_theory.specs.Solutions.{only, chosen, combine}
-use Rattle.answer_theory.specs.Choices.{begun, fitting}
-use Rattle.answer_theory.proofs.Bindings.{value_of_firsts}
+use Rattle.answer_theory.specs.Bindings.{Binding, consistent, first_entries}
+use Rattle.answer_theory.specs.Solutions.{only, chosen_rows, combinations}
+use Rattle.answer_theory.specs.Choices.{solutions_from, fitting_rows}
+use Rattle.answer_theory.proofs.Bindings.{value_of_first_entries}
 use Rattle.answer_theory.proofs.Choices.{choices_solutions, walk_begins, walk_ends, walk_goes}
 use Rattle.answer_theory.proofs.Lists.{map_append, map_map, each_append}
 use Rattle.answer_theory.proofs.Tests.{reads_values}
 use Rattle.row_match.proofs.Reading.{reads_comparisons}
 use Rattle.row_match.specs.Filters.{all_hold, comparison_variables}
-use Rattle.row_match.specs.Patterns.{fits, places_of, values_join}
+use Rattle.row_match.specs.Patterns.{fits, entries_of, values_join}
 use Rattle.row_match.specs.declared.pattern.Term.{Term}
 use Rattle.row_match.specs.declared.pattern.Term.TheVariants as term
 use Rattle.tuple_core.specs.Values.{FitsValue, FitsRow}
 use Rattle.tuple_core.specs.declared.value.Value.{Value}
-use Rattle.query_reader.specs.Answers.{Item, item_fits, item_binds, items_of, items, head_row, choices, bound_at, heads, answer}
+use Rattle.query_core.specs.Answers.{Item, item_fits, item_entries, items_of, items, head_row, choices, binding_at, heads, answer_of}
 use Rattle.tuple_core.specs.Distinct.{AreSortedDistinct}
-use Rattle.query_reader.proofs.Sorting.{only_sorted_rows}
-use Rattle.query_reader.specs.declared.query.Atom.{Atom}
-use Rattle.query_reader.specs.declared.query.Query.{Query}
+use Rattle.query_core.proofs.Sorting.{only_sorted_rows}
+use Rattle.query_core.specs.declared.query.Atom.{Atom}
+use Rattle.query_core.specs.declared.query.Query.{Query}
 use Rattle.query_model.proofs.Binding.{inconsistent}
 use Rattle.query_model.specs.Walks.{agrees_with, binding_of, heads_from, AreBound}
-use Rattle.query_model.specs.declared.places.Place.{Place}
+use Rattle.query_model.specs.declared.entries.Entry.{Entry}
 
--- ---- where the places don't agree already, nothing is found
+-- ---- where the entries don't agree already, nothing is found
 
-none_chosen : {X : Type 0} (joins : X → X → Bool) (test : Binding X → Bool) (b : Binding X) → consistent joins b ≡ false → (rows : List (Binding X)) → chosen joins test (map (λ c. b ++ c) rows) ≡ []
+none_chosen : {X : Type 0} (joins : X → X → Bool) (test : Binding X → Bool) (b : Binding X) → consistent joins b ≡ false → (rows : List (Binding X)) → chosen_rows joins test (map (λ c. b ++ c) rows) ≡ []
 none_chosen joins test b e [] = refl
-none_chosen joins test b e (c ∷ rows) = ap₂ (λ t l. only (t && test (firsts (b ++ c))) (firsts (b ++ c)) ++ l) (inconsistent joins b c e) (none_chosen joins test b e rows)
+none_chosen joins test b e (c ∷ rows) = ap₂ (λ t l. only (t && test (first_entries (b ++ c))) (first_entries (b ++ c)) ++ l) (inconsistent joins b c e) (none_chosen joins test b e rows)
 
 pub begun_none : {X Y : Type 0} (joins : X → X → Bool) (fits : Y → Bool) (binding : Y → Binding X) (test : Binding X → Bool) (b : Binding X) (lists : List (List Y))
-    → consistent joins b ≡ false → begun joins fits binding test b lists ≡ []
-begun_none joins fits binding test b lists e = none_chosen joins test b e (combine (map (fitting fits binding) lists))
+    → consistent joins b ≡ false → solutions_from joins fits binding test b lists ≡ []
+begun_none joins fits binding test b lists e = none_chosen joins test b e (combinations (map (fitting_rows fits binding) lists))
 
 module _ (q : Query) where
   -- ---- the end: a row of each atom is chosen
 
-  heads_of_one : (t : Bool) (b : Binding Value) → map (head_row q) (only t b) ≡ only t (head_row q b)
+  heads_of_one : (t : Bool) (b : Binding Value) → map (head_row q.head) (only t b) ≡ only t (head_row q.head b)
   heads_of_one true b = refl
   heads_of_one false b = refl
 
-  head_of_firsts : (b : Binding Value) → head_row q (firsts b) ≡ head_row q b
-  head_of_firsts b = ap (λ f. filter_map f q.head) (fun_ext (λ v. value_of_firsts b v))
+  head_of_first_entries : (b : Binding Value) → head_row q.head (first_entries b) ≡ head_row q.head b
+  head_of_first_entries b = ap (λ f. filter_map f q.head) (fun_ext (λ v. value_of_first_entries b v))
 
-  firsts_hold : (b : Binding Value) → all_hold q.comparisons (firsts b) ≡ all_hold q.comparisons b
-  firsts_hold b = reads_values (comparison_variables q.comparisons) (all_hold q.comparisons) (reads_comparisons q.comparisons) (firsts b) b (value_of_firsts b)
+  first_entries_hold : (b : Binding Value) → all_hold q.comparisons (first_entries b) ≡ all_hold q.comparisons b
+  first_entries_hold b = reads_values (comparison_variables q.comparisons) (all_hold q.comparisons) (reads_comparisons q.comparisons) (first_entries b) b (value_of_first_entries b)
 
-  pub heads_end : (b : Binding Value) → consistent values_join b ≡ true → heads_from q b [] ≡ only (all_hold q.comparisons b) (head_row q b)
+  pub heads_end : (b : Binding Value) → consistent values_join b ≡ true → heads_from q b [] ≡ only (all_hold q.comparisons b) (head_row q.head b)
   heads_end b e =
-      ap (map (head_row q)) (walk_ends values_join item_fits item_binds (all_hold q.comparisons) b)
-      ∙ (heads_of_one (consistent values_join b && all_hold q.comparisons (firsts b)) (firsts b)
-      ∙ ap₂ only (ap₂ (λ s t. s && t) e (firsts_hold b)) (head_of_firsts b))
+      ap (map (head_row q.head)) (walk_ends values_join item_fits item_entries (all_hold q.comparisons) b)
+      ∙ (heads_of_one (consistent values_join b && all_hold q.comparisons (first_entries b)) (first_entries b)
+      ∙ ap₂ only (ap₂ (λ s t. s && t) e (first_entries_hold b)) (head_of_first_entries b))
 
   -- ---- a row of the next atom
 
   pub heads_none : (b : Binding Value) (lists : List (List Item)) → heads_from q b ([] ∷ lists) ≡ []
-  heads_none b lists = ap (map (head_row q)) (walk_goes values_join item_fits item_binds (all_hold q.comparisons) b [] lists)
+  heads_none b lists = ap (map (head_row q.head)) (walk_goes values_join item_fits item_entries (all_hold q.comparisons) b [] lists)
 
   pub heads_row : (b : Binding Value) (atom : Atom) (row : List Value) (rows : List (List Value)) (lists : List (List Item))
       → heads_from q b (items_of atom (row ∷ rows) ∷ lists)
-      ≡ cond (agrees_with b atom.terms row) (heads_from q (b ++ places_of atom.terms row) lists) [] ++ heads_from q b (items_of atom rows ∷ lists)
+      ≡ cond (agrees_with b atom.terms row) (heads_from q (b ++ entries_of atom.terms row) lists) [] ++ heads_from q b (items_of atom rows ∷ lists)
   heads_row b atom row rows lists =
-      ap (map (head_row q)) (walk_goes values_join item_fits item_binds (all_hold q.comparisons) b (items_of atom (row ∷ rows)) lists)
-      ∙ (map_append (head_row q) (cond (fits atom.terms row) (more (b ++ places_of atom.terms row)) []) (flat_map (λ y. cond (item_fits y) (more (b ++ item_binds y)) []) (items_of atom rows))
-      ∙ ap₂ (λ l r. l ++ map (head_row q) r)
-      (go (fits atom.terms row) (consistent values_join (b ++ places_of atom.terms row)) (more (b ++ places_of atom.terms row)) (begun_none values_join item_fits item_binds (all_hold q.comparisons) (b ++ places_of atom.terms row) lists))
-      (sym (walk_goes values_join item_fits item_binds (all_hold q.comparisons) b (items_of atom rows) lists)))
+      ap (map (head_row q.head)) (walk_goes values_join item_fits item_entries (all_hold q.comparisons) b (items_of atom (row ∷ rows)) lists)
+      ∙ (map_append (head_row q.head) (cond (fits atom.terms row) (more (b ++ entries_of atom.terms row)) []) (flat_map (λ y. cond (item_fits y) (more (b ++ item_entries y)) []) (items_of atom rows))
+      ∙ ap₂ (λ l r. l ++ map (head_row q.head) r)
+      (go (fits atom.terms row) (consistent values_join (b ++ entries_of atom.terms row)) (more (b ++ entries_of atom.terms row)) (begun_none values_join item_fits item_entries (all_hold q.comparisons) (b ++ entries_of atom.terms row) lists))
+      (sym (walk_goes values_join item_fits item_entries (all_hold q.comparisons) b (items_of atom rows) lists)))
     where
       more : Binding Value → List (Binding Value)
-      more c = begun values_join item_fits item_binds (all_hold q.comparisons) c lists
+      more c = solutions_from values_join item_fits item_entries (all_hold q.comparisons) c lists
 
-      go : (s t : Bool) (found : List (Binding Value)) → (t ≡ false → found ≡ []) → map (head_row q) (cond s found []) ≡ cond (s && t) (map (head_row q) found) []
+      go : (s t : Bool) (found : List (Binding Value)) → (t ≡ false → found ≡ []) → map (head_row q.head) (cond s found []) ≡ cond (s && t) (map (head_row q.head) found) []
       go true true found h = refl
-      go true false found h = ap (map (head_row q)) (h refl)
+      go true false found h = ap (map (head_row q.head)) (h refl)
       go false t found h = refl
 
 -- ---- what the chosen rows bind
 
-places_fit : (terms : List Term) (row : List Value) → AllByRecursion FitsValue row → AllByRecursion (λ p. FitsValue p.1) (places_of terms row)
-places_fit [] row all = tt
-places_fit (t ∷ terms) [] all = tt
-places_fit (term.Constant c ∷ terms) (x ∷ row) all = places_fit terms row all.1
-places_fit (term.Variable v ∷ terms) (x ∷ row) all = (all.0, places_fit terms row all.1)
+entries_fit : (terms : List Term) (row : List Value) → AllByRecursion FitsValue row → AllByRecursion (λ p. FitsValue p.1) (entries_of terms row)
+entries_fit [] row all = tt
+entries_fit (t ∷ terms) [] all = tt
+entries_fit (term.Constant c ∷ terms) (x ∷ row) all = entries_fit terms row all.1
+entries_fit (term.Variable v ∷ terms) (x ∷ row) all = (all.0, entries_fit terms row all.1)
 
 -- one row more
-pub row_bound : (b : Binding Value) (terms : List Term) (row : List Value) → AreBound b → FitsRow row → agrees_with b terms row ≡ true → AreBound (b ++ places_of terms row)
+pub row_bound : (b : Binding Value) (terms : List Term) (row : List Value) → AreBound b → FitsRow row → agrees_with b terms row ≡ true → AreBound (b ++ entries_of terms row)
 row_bound b terms row h f e = record {
-  agree = (and_parts (fits terms row) (consistent values_join (b ++ places_of terms row)) e).1;
-  fit = each_append (λ p. FitsValue p.1) b (places_of terms row) h.fit (places_fit terms row f.each);
+  agree = (and_parts (fits terms row) (consistent values_join (b ++ entries_of terms row)) e).1;
+  fit = each_append (λ p. FitsValue p.1) b (entries_of terms row) h.fit (entries_fit terms row f.each);
 }
 
 -- ---- the rows of an atom, one after another
@@ -100,7 +100,7 @@ row_bound b terms row h f e = record {
 -- What is found from a row on is what is found with it, where it agrees, and then from the next row on.
 pub row_walked : (q : Query) (b : Binding Value) (atom : Atom) (rows : List (List Value)) (k : ℕ) (row : List Value) (lists : List (List Item)) (before after : List (List Value))
     → k < length rows → row ≡ get_or rows k row
-    → after ≡ before ++ cond (agrees_with b atom.terms row) (heads_from q (b ++ places_of atom.terms row) lists) []
+    → after ≡ before ++ cond (agrees_with b atom.terms row) (heads_from q (b ++ entries_of atom.terms row) lists) []
     → after ++ heads_from q b (items_of atom (drop (k + 1) rows) ∷ lists) ≡ before ++ heads_from q b (items_of atom (drop k rows) ∷ lists)
 row_walked q b atom rows k row lists before after l at e =
     ap (λ f. f ++ heads_from q b (items_of atom (drop (k + 1) rows) ∷ lists)) e
@@ -110,47 +110,47 @@ row_walked q b atom rows k row lists before after l at e =
 
 -- a row that agrees: what is found with it comes
 pub goes_on : (q : Query) (b now new : Binding Value) (terms ts : List Term) (row xs : List Value) (lists : List (List Item)) (before after : List (List Value))
-    → now ≡ b → ts ≡ terms → xs ≡ row → agrees_with now ts xs ≡ true → new ≡ now ++ places_of ts xs → after ≡ before ++ heads_from q new lists
-    → after ≡ before ++ cond (agrees_with b terms row) (heads_from q (b ++ places_of terms row) lists) []
+    → now ≡ b → ts ≡ terms → xs ≡ row → agrees_with now ts xs ≡ true → new ≡ now ++ entries_of ts xs → after ≡ before ++ heads_from q new lists
+    → after ≡ before ++ cond (agrees_with b terms row) (heads_from q (b ++ entries_of terms row) lists) []
 goes_on q b now new terms ts row xs lists before after same is_terms is_row e n found =
     let agrees : agrees_with b terms row ≡ true = rw (← same, ← is_terms, ← is_row) e in
-    let bound : new ≡ b ++ places_of terms row = rw (← same, ← is_terms, ← is_row) n in
-    found ∙ (ap (λ c. before ++ heads_from q c lists) bound ∙ ap (λ t. before ++ cond t (heads_from q (b ++ places_of terms row) lists) []) (sym agrees))
+    let bound : new ≡ b ++ entries_of terms row = rw (← same, ← is_terms, ← is_row) n in
+    found ∙ (ap (λ c. before ++ heads_from q c lists) bound ∙ ap (λ t. before ++ cond t (heads_from q (b ++ entries_of terms row) lists) []) (sym agrees))
 
 -- a row that doesn't: nothing comes
 pub passes_over : (q : Query) (b now : Binding Value) (terms ts : List Term) (row xs : List Value) (lists : List (List Item)) (before after : List (List Value))
     → now ≡ b → ts ≡ terms → xs ≡ row → agrees_with now ts xs ≡ false → after ≡ before
-    → after ≡ before ++ cond (agrees_with b terms row) (heads_from q (b ++ places_of terms row) lists) []
+    → after ≡ before ++ cond (agrees_with b terms row) (heads_from q (b ++ entries_of terms row) lists) []
 passes_over q b now terms ts row xs lists before after same is_terms is_row e found =
     let differs : agrees_with b terms row ≡ false = rw (← same, ← is_terms, ← is_row) e in
-    found ∙ (sym (append-nil before) ∙ ap (λ t. before ++ cond t (heads_from q (b ++ places_of terms row) lists) []) (sym differs))
+    found ∙ (sym (append-nil before) ∙ ap (λ t. before ++ cond t (heads_from q (b ++ entries_of terms row) lists) []) (sym differs))
 
 pub rows_walked : (q : Query) (b : Binding Value) (atom : Atom) (rows : List (List Value)) (k : ℕ) (lists : List (List Item)) (found : List (List Value))
     → length rows ≤ k → found ++ heads_from q b (items_of atom (drop k rows) ∷ lists) ≡ found
 rows_walked q b atom rows k lists found l =
     ap (λ rs. found ++ heads_from q b (items_of atom rs ∷ lists)) (drop_all k rows l) ∙ (ap (λ f. found ++ f) (heads_none q b lists) ∙ append-nil found)
 
--- what is bound is as before, once the places behind are cut off
-pub cut_back : (old now after : List Place) (before : ℕ) → before ≡ length old → binding_of now ≡ binding_of old → take (length now) (binding_of after) ≡ binding_of now → binding_of (take before after) ≡ binding_of old
+-- what is bound is as before, once the entries behind are cut off
+pub cut_back : (old now after : List Entry) (before : ℕ) → before ≡ length old → binding_of now ≡ binding_of old → take (length now) (binding_of after) ≡ binding_of now → binding_of (take before after) ≡ binding_of old
 cut_back old now after before e same kept =
-    let long : before ≡ length now = omega (arith, e, sym (length-map old place) ∙ sym (ap length same) ∙ length-map now place) in
-    sym (take-map place before after) ∙ (ap (λ n. take n (binding_of after)) long ∙ (kept ∙ same))
+    let long : before ≡ length now = omega (arith, e, sym (length-map old entry) ∙ sym (ap length same) ∙ length-map now entry) in
+    sym (take-map entry before after) ∙ (ap (λ n. take n (binding_of after)) long ∙ (kept ∙ same))
   where
-    place : Place → ℕ × Value
-    place p = (p.variable, p.value.now)
+    entry : Entry → ℕ × Value
+    entry p = (p.variable, p.value.now)
 
 -- ---- the whole walk
 
-heads_of_choices : (q : Query) (arrivals : List (List (List Value))) → heads_from q [] (items q.atoms arrivals) ≡ heads q arrivals
+heads_of_choices : (q : Query) (arrivals : List (List (List Value))) → heads_from q [] (items q.atoms arrivals) ≡ heads q.head q.atoms q.comparisons arrivals
 heads_of_choices q arrivals =
-    ap (map (head_row q)) (walk_begins values_join item_fits item_binds (all_hold q.comparisons) lists ∙ sym (choices_solutions values_join item_fits item_binds (all_hold q.comparisons) lists))
-    ∙ map_map (head_row q) (bound_at q arrivals) (choices q arrivals)
+    ap (map (head_row q.head)) (walk_begins values_join item_fits item_entries (all_hold q.comparisons) lists ∙ sym (choices_solutions values_join item_fits item_entries (all_hold q.comparisons) lists))
+    ∙ map_map (head_row q.head) (binding_at q.atoms arrivals) (choices q.atoms q.comparisons arrivals)
   where
     lists : List (List Item)
     lists = items q.atoms arrivals
 
 -- the distinct rows of what the walk found are the answer
 pub walk_answers : {E : Type 0} (q : Query) (arrivals : List (List (List Value))) (found : List (List Value)) (result : Result (List (List Value)) E) → found ≡ heads_from q [] (items q.atoms arrivals)
-    → IfOk result (λ rows. AreSortedDistinct found rows) → IfOk result (λ rows. rows ≡ answer q arrivals)
-walk_answers q arrivals found (Ok rows) e h = only_sorted_rows (heads q arrivals) rows (rw (← heads_of_choices q arrivals, ← e) h)
+    → IfOk result (λ rows. AreSortedDistinct found rows) → IfOk result (λ rows. rows ≡ answer_of q arrivals)
+walk_answers q arrivals found (Ok rows) e h = only_sorted_rows (heads q.head q.atoms q.comparisons arrivals) rows (rw (← heads_of_choices q arrivals, ← e) h)
 walk_answers q arrivals found (Err fault) e h = tt

@@ -1,50 +1,71 @@
-//! What the chosen rows bind, place by place.
+//! What the chosen rows bind, entry by entry.
 
 ghost use Rattle.std.specs.Prelude.{◌≡◌, false, true, ◌++◌, ◌∷◌, [], take, length, IfOk, OnOk};
 ghost use Rattle.answer_theory.specs.Bindings.{consistent};
-ghost use Rattle.row_match.specs.Patterns.{places_of, values_join};
-ghost use Rattle.query_model.specs.Walks.{agrees, agrees_with, all_agree, binding_of};
+ghost use Rattle.row_match.specs.Patterns.{entries_of, values_join};
+ghost use Rattle.query_model.specs.Walks.{agrees_with, binding_of, entries_agree, entry_agrees};
 
-use query_reader::Term;
+use row_match::{Term, Valuation};
 use std::alloc::AllocError;
 use tuple_core::Value;
 
-/// A place of a variable, with the value that stands there.
+/// A variable, with the value that stands in one of its columns.
 #[derive(Drop)]
-pub(crate) struct Place<'a> {
+pub(crate) struct Entry<'a> {
     pub(crate) variable: u32,
     pub(crate) value: &'a Value,
 }
 
-fn agrees(place: &Place, variable: u32, value: &Value) -> bool
-    ensures { result ≡ agrees place.now variable value.now }
-{
-    place.variable != variable || *place.value == *value
+/// Entries as what gives variables their values: the first entry of a variable counts.
+#[derive(Drop)]
+pub(crate) struct FirstEntries<'e, 'a> {
+    pub(crate) entries: &'e [Entry<'a>],
 }
 
-fn all_agree(places: &[Place], variable: u32, value: &Value) -> bool
-    ensures { result ≡ all_agree places.now variable value.now }
-{
-    places.iter().all(|place| agrees(place, variable, value))
+impl Valuation for FirstEntries<'_, '_> {
+    ghost binding = { λ firsts. binding_of firsts.entries.now };
+
+    fn value_of(&self, variable: u32) -> Option<&Value> {
+        for entry in self.entries {
+            if entry.variable == variable {
+                return Some(entry.value);
+            }
+        }
+        None
+    }
 }
 
-// Whether the value agrees with its column's term; it is a place more where that is a variable.
+fn entry_agrees(entry: &Entry, variable: u32, value: &Value) -> bool
+    ensures { result ≡ entry_agrees entry.now variable value.now }
+{
+    entry.variable != variable || *entry.value == *value
+}
+
+fn entries_agree(entries: &[Entry], variable: u32, value: &Value) -> bool
+    ensures { result ≡ entries_agree entries.now variable value.now }
+{
+    entries
+        .iter()
+        .all(|entry| entry_agrees(entry, variable, value))
+}
+
+// Whether the value agrees with its column's term; it is one entry more where that is a variable.
 fn bind_value<'a>(
     term: &Term,
     value: &'a Value,
-    places: &mut Vec<Place<'a>>,
+    entries: &mut Vec<Entry<'a>>,
 ) -> Result<bool, AllocError>
-    requires { consistent values_join (binding_of places.old.items) ≡ true }
-    ensures agrees { IfOk result (λ agrees. agrees ≡ agrees_with (binding_of places.old.items) (term.now ∷ []) (value.now ∷ [])) }
-    ensures bound { IfOk result (λ agrees. agrees ≡ true → binding_of places.new.items ≡ binding_of places.old.items ++ places_of (term.now ∷ []) (value.now ∷ [])) }
-    ensures kept { IfOk result (λ agrees. agrees ≡ false → binding_of places.new.items ≡ binding_of places.old.items) }
+    requires { consistent values_join (binding_of entries.old.items) ≡ true }
+    ensures agrees { IfOk result (λ agrees. agrees ≡ agrees_with (binding_of entries.old.items) (term.now ∷ []) (value.now ∷ [])) }
+    ensures bound { IfOk result (λ agrees. agrees ≡ true → binding_of entries.new.items ≡ binding_of entries.old.items ++ entries_of (term.now ∷ []) (value.now ∷ [])) }
+    ensures kept { IfOk result (λ agrees. agrees ≡ false → binding_of entries.new.items ≡ binding_of entries.old.items) }
 {
     match term {
         Term::Constant(constant) => Ok(*value == *constant),
         Term::Variable(variable) => {
-            let agrees = all_agree(places.as_slice(), *variable, value);
+            let agrees = entries_agree(entries.as_slice(), *variable, value);
             if agrees {
-                places.push(Place {
+                entries.push(Entry {
                     variable: *variable,
                     value,
                 })?;
@@ -54,19 +75,19 @@ fn bind_value<'a>(
     }
 }
 
-/// Whether the row agrees with the terms and with the places; its own places are then put behind these.
+/// Whether the row agrees with the terms and with the entries; its own entries are then put behind these.
 pub(crate) fn bind_row<'a>(
     terms: &[Term],
     row: &'a [Value],
-    places: &mut Vec<Place<'a>>,
+    entries: &mut Vec<Entry<'a>>,
 ) -> Result<bool, AllocError>
-    requires { consistent values_join (binding_of places.old.items) ≡ true }
-    ensures agrees { IfOk result (λ agrees. agrees ≡ agrees_with (binding_of places.old.items) terms.now row.now) }
-    ensures bound { IfOk result (λ agrees. agrees ≡ true → binding_of places.new.items ≡ binding_of places.old.items ++ places_of terms.now row.now) }
-    ensures kept { OnOk result (take (length places.old.items) (binding_of places.new.items) ≡ binding_of places.old.items) }
+    requires { consistent values_join (binding_of entries.old.items) ≡ true }
+    ensures agrees { IfOk result (λ agrees. agrees ≡ agrees_with (binding_of entries.old.items) terms.now row.now) }
+    ensures bound { IfOk result (λ agrees. agrees ≡ true → binding_of entries.new.items ≡ binding_of entries.old.items ++ entries_of terms.now row.now) }
+    ensures kept { OnOk result (take (length entries.old.items) (binding_of entries.new.items) ≡ binding_of entries.old.items) }
 {
     for (term, value) in terms.iter().zip(row) {
-        if !bind_value(term, value, places)? {
+        if !bind_value(term, value, entries)? {
             return Ok(false);
         }
     }

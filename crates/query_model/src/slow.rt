@@ -1,42 +1,42 @@
 //! Answers a query by nested choice.
 
 ghost use Rattle.std.specs.Prelude.{◌≡◌, ◌≤◌, ◌++◌, length, IfOk, OnOk};
-ghost use Rattle.query_reader.specs.Answers.{answer, items};
+ghost use Rattle.query_core.specs.Answers.{answer_of, items};
 ghost use Rattle.tuple_core.specs.Distinct.{AreSortedDistinct};
 ghost use Rattle.query_model.specs.Walks.{binding_of, heads_from, AreBound};
 
+use crate::entries::{Entry, bind_row};
 use crate::heads::keep_head;
-use crate::places::{Place, bind_row};
-use query_reader::{Arrivals, Atom, Query};
+use query_core::{Arrivals, Atom, Query};
 use std::alloc::{AllocError, Global};
 use tuple_core::{Row, Rows, sorted_distinct};
 
-// Takes each row of the first atom that agrees with the places, and goes on with the other atoms.
+// Takes each row of the first atom that agrees with the entries, and goes on with the other atoms.
 fn walk<'a>(
     alloc: Global,
     query: &Query,
     atoms: &[Atom],
     arrivals: &'a [Rows],
-    places: &mut Vec<Place<'a>>,
+    entries: &mut Vec<Entry<'a>>,
     found: &mut Vec<Row>,
 ) -> Result<(), AllocError>
     requires head { length query.now.head ≤ 64 }
-    requires bound { AreBound (binding_of places.old.items) }
-    ensures found { OnOk result (found.new.items ≡ found.old.items ++ heads_from query.now (binding_of places.old.items) (items atoms.now arrivals.now)) }
-    ensures places { OnOk result (binding_of places.new.items ≡ binding_of places.old.items) }
+    requires bound { AreBound (binding_of entries.old.items) }
+    ensures found { OnOk result (found.new.items ≡ found.old.items ++ heads_from query.now (binding_of entries.old.items) (items atoms.now arrivals.now)) }
+    ensures entries { OnOk result (binding_of entries.new.items ≡ binding_of entries.old.items) }
 {
     let Some((atom, more_atoms)) = atoms.split_first() else {
-        return keep_head(alloc, query, places.as_slice(), found);
+        return keep_head(alloc, query, entries.as_slice(), found);
     };
     let Some((rows, more_arrivals)) = arrivals.split_first() else {
         return Ok(());
     };
-    let before = places.len();
+    let before = entries.len();
     for row in rows.as_slice() {
-        if bind_row(atom.terms.as_slice(), row.values(), places)? {
-            walk(alloc, query, more_atoms, more_arrivals, places, found)?;
+        if bind_row(atom.terms.as_slice(), row.values(), entries)? {
+            walk(alloc, query, more_atoms, more_arrivals, entries, found)?;
         }
-        places.truncate(before);
+        entries.truncate(before);
     }
     Ok(())
 }
@@ -50,16 +50,16 @@ fn distinct_rows(found: Vec<Row>) -> Result<Rows, AllocError>
 /// The distinct rows of the query's answer, in their order. It takes a row of each atom in turn, in each way.
 pub fn slow_answer(alloc: Global, query: &Query, arrivals: &Arrivals) -> Result<Rows, AllocError>
     requires head { length query.now.head ≤ 64 }
-    ensures { IfOk result (λ rows. rows ≡ answer query.now arrivals.now) }
+    ensures { IfOk result (λ rows. rows ≡ answer_of query.now arrivals.now) }
 {
-    let mut places = Vec::new(alloc);
+    let mut entries = Vec::new(alloc);
     let mut found = Vec::new(alloc);
     walk(
         alloc,
         query,
         query.atoms.as_slice(),
         arrivals.as_slice(),
-        &mut places,
+        &mut entries,
         &mut found,
     )?;
     distinct_rows(found)

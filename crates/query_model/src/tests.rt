@@ -5,7 +5,7 @@ ghost use Rattle.tuple_core.specs.Values.{FitsValue};
 
 use super::*;
 use med_prelude::Listed;
-use query_reader::{Arrivals, Atom, Comparison, Query, Term};
+use query_core::{Arrivals, Atom, Comparison, Query, Term};
 use std::alloc::{AllocError, Global};
 use std::test::Fail;
 use tuple_core::{Kind, Op, Row, Rows, Value, parse_value};

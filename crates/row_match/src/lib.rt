@@ -1,7 +1,6 @@
 //! How a row is matched with an atom, tested, and joined with another row.
 #![tactic(auto)]
 
-mod copying;
 mod filter;
 mod laws;
 mod matching;

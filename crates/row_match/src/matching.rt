@@ -5,7 +5,6 @@ ghost use Rattle.answer_theory.specs.Rows.{both_join};
 ghost use Rattle.row_match.specs.Patterns.{matched_row, values_join};
 ghost use Rattle.row_match.specs.Prepared.{kept_after};
 
-use crate::copying::copy_of;
 use crate::pattern::{ColumnTerm, Pattern, Term};
 use std::alloc::{AllocError, Global};
 use tuple_core::{Row, Value};
@@ -20,19 +19,14 @@ fn is_at(values: &[Value], position: usize, value: &Value) -> bool
 }
 
 // Whether the value agrees with its column; it is kept where its variable is new.
-fn agrees(
-    alloc: Global,
-    column: &ColumnTerm,
-    value: &Value,
-    values: &mut Vec<Value>,
-) -> Result<bool, AllocError>
+fn agrees(column: &ColumnTerm, value: &Value, values: &mut Vec<Value>) -> Result<bool, AllocError>
     ensures { IfOk result (λ agrees. (if agrees then Some values.new.items else None) ≡ kept_after column.now value.now values.old.items) }
 {
     match (&column.term, column.position) {
         (Term::Constant(constant), _) => Ok(*value == *constant),
         (Term::Variable(_), Some(position)) => Ok(is_at(values.as_slice(), position, value)),
         (Term::Variable(_), None) => {
-            values.push(copy_of(alloc, value)?)?;
+            values.push(value.clone()?)?;
             Ok(true)
         }
     }
@@ -47,7 +41,7 @@ impl Pattern {
     {
         let mut values = Vec::new(alloc);
         'columns: for (position, value) in row.values().iter().enumerate() {
-            if !agrees(alloc, &self.columns[position], value, &mut values)? {
+            if !agrees(&self.columns[position], value, &mut values)? {
                 return Ok(None);
             }
         }

@@ -8,7 +8,6 @@ ghost use Rattle.answer_theory.specs.Solutions.{names};
 ghost use Rattle.tuple_core.specs.Encoding.{row_encoding};
 ghost use Rattle.row_match.specs.Shapes.{key_positions, key_row, lacking_variables, positions_in, vars_of};
 
-use crate::copying::copy_of;
 use crate::vars::{Vars, position_of, value_at};
 use std::alloc::{AllocError, Global};
 use std::marker::Model;
@@ -48,7 +47,7 @@ fn names(variables: &[u32], variable: u32) -> bool
     variables.iter().any(|v| *v == variable)
 }
 
-fn copied(alloc: Global, variables: &[u32]) -> Result<Vec<u32>, AllocError>
+fn copy_of(alloc: Global, variables: &[u32]) -> Result<Vec<u32>, AllocError>
     ensures { IfOk result (λ copy. copy.items ≡ variables.now) }
 {
     let mut copy = Vec::new(alloc);
@@ -102,31 +101,21 @@ fn positions_in(alloc: Global, wanted: &[u32], variables: &[u32]) -> Result<Vec<
 }
 
 // Appends a copy of the value that stands at the position.
-fn push_copy(
-    alloc: Global,
-    row: &[Value],
-    position: usize,
-    into: &mut Vec<Value>,
-) -> Result<(), AllocError>
+fn push_copy(row: &[Value], position: usize, into: &mut Vec<Value>) -> Result<(), AllocError>
     ensures { OnOk result (into.new.items ≡ into.old.items ++ cons_option (slice_get row.now position) []) }
 {
     match value_at(row, position) {
-        Some(value) => Ok(into.push(copy_of(alloc, value)?)?),
+        Some(value) => Ok(into.push(value.clone()?)?),
         None => Ok(()),
     }
 }
 
 // Appends copies of the values that stand at the positions.
-fn gather(
-    alloc: Global,
-    row: &[Value],
-    positions: &[usize],
-    into: &mut Vec<Value>,
-) -> Result<(), AllocError>
+fn gather(row: &[Value], positions: &[usize], into: &mut Vec<Value>) -> Result<(), AllocError>
     ensures { OnOk result (into.new.items ≡ into.old.items ++ filter_map (slice_get row.now) positions.now) }
 {
     for position in positions {
-        push_copy(alloc, row, *position, into)?;
+        push_copy(row, *position, into)?;
     }
     Ok(())
 }
@@ -136,15 +125,15 @@ fn copy_values(alloc: Global, row: &[Value]) -> Result<Vec<Value>, AllocError>
 {
     let mut copies = Vec::new(alloc);
     for value in row {
-        copies.push(copy_of(alloc, value)?)?;
+        copies.push(value.clone()?)?;
     }
     Ok(copies)
 }
 
-fn appended(alloc: Global, left: &[u32], right: &[u32]) -> Result<Vec<u32>, AllocError>
+fn append(alloc: Global, left: &[u32], right: &[u32]) -> Result<Vec<u32>, AllocError>
     ensures { IfOk result (λ all. all.items ≡ left.now ++ right.now) }
 {
-    let mut all = copied(alloc, left)?;
+    let mut all = copy_of(alloc, left)?;
     all.extend_from_slice(right)?;
     Ok(all)
 }
@@ -162,9 +151,9 @@ impl JoinShape {
             left_key: positions_in(alloc, shared.as_slice(), left)?,
             right_key: positions_in(alloc, shared.as_slice(), right)?,
             lacked: positions_in(alloc, lacking.as_slice(), right)?,
-            left: copied(alloc, left)?,
-            right: copied(alloc, right)?,
-            variables: Vars::new(appended(alloc, left, lacking.as_slice())?),
+            left: copy_of(alloc, left)?,
+            right: copy_of(alloc, right)?,
+            variables: Vars::new(append(alloc, left, lacking.as_slice())?),
         })
     }
 
@@ -183,7 +172,7 @@ impl JoinShape {
         ensures bindings { IfOk result (λ g. over (glued_variables self.now.left self.now.right) g ≡ glue (over self.now.left left.now) (over self.now.right right.now)) }
     {
         let mut values = copy_values(alloc, left.values())?;
-        gather(alloc, right.values(), self.lacked.as_slice(), &mut values)?;
+        gather(right.values(), self.lacked.as_slice(), &mut values)?;
         Ok(Row::new(values))
     }
 
