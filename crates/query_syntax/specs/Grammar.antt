@@ -1,6 +1,7 @@
 -- The grammar of queries: how a query is spelled.
 use Rattle.std.specs.Prelude.{◌≡◌, ℕ, List, [], ◌∷◌, ◌++◌, length, Some}
 use Rattle.std.specs.List.{AllByRecursion}
+use Rattle.med_prelude.specs.Texts.{Bytes}
 use Rattle.query_syntax.specs.Tokens.{token_at}
 use Rattle.query_syntax.specs.declared.syntax.Part.{Part}
 use Rattle.query_syntax.specs.declared.syntax.Part.TheVariants.{Atom, Comparison}
@@ -62,7 +63,7 @@ pub record IsQuery (q : Syntax) : Type 0 where
 -- some bytes are the token
 pub record IsReal (t : Token) : Type 0 where
   pub at : ℕ
-  pub bytes : List ℕ
+  pub bytes : Bytes
   pub spelt : token_at at bytes ≡ Some (t, length bytes)
 
 -- the tokens are those of the query, with its offsets

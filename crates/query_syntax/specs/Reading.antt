@@ -1,5 +1,6 @@
 -- The query that a text spells, or the offset where it goes wrong.
-use Rattle.std.specs.Prelude.{ℕ, List, length, Option, Some, None, Result}
+use Rattle.std.specs.Prelude.{ℕ, length, Option, Some, None, Result}
+use Rattle.med_prelude.specs.Texts.{Bytes}
 use Rattle.text_reading.specs.Lexing.{lexes}
 use Rattle.text_reading.specs.Machines.{read}
 use Rattle.query_syntax.specs.Machine.{finished_query, step}
@@ -14,14 +15,14 @@ state_and_length len None = None
 state_and_length len (Some next) = Some (next, len)
 
 -- the state after the token that bytes at an offset begin with, and the token's length
-abbrev pub advance : State → ℕ → List ℕ → Option (State × ℕ)
+abbrev pub advance : State → ℕ → Bytes → Option (State × ℕ)
 advance state at bytes = elim (token_at at bytes) [ None ↦ None | Some read ↦ state_and_length read.1 (step state read.0) ]
 
 -- what is read from a state on, of bytes that stand at an offset of a text of that size
-unfoldable pub syntax_from : ℕ → State → ℕ → List ℕ → Result Syntax ℕ
+unfoldable pub syntax_from : ℕ → State → ℕ → Bytes → Result Syntax ℕ
 syntax_from size state at bytes = read step finished_query size state (lexes lexicon 0 at bytes)
 
 -- The grammar's machine over the text's tokens. The law of the function `grammar_is_exact` says what this is in the
 -- grammar's own words.
-unfoldable pub syntax_of : List ℕ → Result Syntax ℕ
+unfoldable pub syntax_of : Bytes → Result Syntax ℕ
 syntax_of text = read step finished_query (length text) Start (lexemes_of text)

@@ -1,6 +1,7 @@
 //! The law of the grammar: what is read is spelled so, and a refusal is the one offset where the text goes wrong.
 
 ghost use Rattle.std.specs.Prelude.{false, ◌≡◌, ℕ, List, length, Some, None, Ok, Err};
+ghost use Rattle.med_prelude.specs.Texts.{Bytes};
 ghost use Rattle.text_reading.specs.Lexing.{AreTokensOf, tokens};
 ghost use Rattle.text_reading.specs.Machines.{run};
 ghost use Rattle.text_reading.specs.Runs.{begins_blank};
@@ -19,14 +20,14 @@ ghost use Rattle.query_syntax.specs.declared.token.Token.{Token as AToken};
 /// the tokens that can be continued to a query, by tokens that some bytes are. The tokens of a text stand in it one
 /// after the other, with nothing but blanks between them.
 pub fn grammar_is_exact()
-    ensures cut { (text : List ℕ) → begins_blank text ≡ false → AreTokensOf lexicon 0 text (lexemes_of text) }
-    ensures sound { (text : List ℕ) (query : ASyntax) → syntax_of text ≡ Ok query
+    ensures cut { (text : Bytes) → begins_blank text ≡ false → AreTokensOf lexicon 0 text (lexemes_of text) }
+    ensures sound { (text : Bytes) (query : ASyntax) → syntax_of text ≡ Ok query
         → Spells (tokens (lexemes_of text)) query }
-    ensures complete { (text : List ℕ) (query : ASyntax) → Spells (tokens (lexemes_of text)) query
+    ensures complete { (text : Bytes) (query : ASyntax) → Spells (tokens (lexemes_of text)) query
         → syntax_of text ≡ Ok query }
     ensures unique { (ts : List AToken) (query other : ASyntax) → Spells ts query → Spells ts other
         → query ≡ other }
-    ensures exact { (text : List ℕ) (at : ℕ) → syntax_of text ≡ Err at
+    ensures exact { (text : Bytes) (at : ℕ) → syntax_of text ≡ Err at
         → BreaksAt (lexemes_of text) (length text) at }
     ensures live { (ts : List AToken) (state : AState) → run step Start ts ≡ Some state → Viable ts }
     ensures dead { (ts : List AToken) → run step Start ts ≡ None → Viable ts → ⊥ }

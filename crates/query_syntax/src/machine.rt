@@ -4,7 +4,7 @@ ghost use Rattle.std.specs.Prelude.{◌≡◌, IfOk};
 ghost use Rattle.query_syntax.specs.Machine.{comparison_part, constant_term, finished_query, step, variable_term, with_part, with_term, with_variable};
 ghost use Rattle.query_syntax.specs.declared.machine.State.TheVariants.{Start, Named, HeadStart, HeadEnd, HeadClosed, PartStart, PartNamed, TermStart, TermEnd, Compared, PartEnd};
 
-use crate::syntax::{Part, WrittenTerm, Syntax, Word, NamedTerm, WrittenAtom, WrittenComparison};
+use crate::syntax::{NamedTerm, Part, Syntax, Word, WrittenAtom, WrittenComparison, WrittenTerm};
 use crate::token::Token;
 use med_prelude::Listed;
 use std::alloc::{AllocError, Global};
@@ -188,7 +188,12 @@ fn right_side(body: Body, left: Word, op: Op, token: Token) -> Result<Option<Sta
 {
     match token {
         Token::Name(name) => Ok(Some(with_comparison(body, left, op, variable_term(name))?)),
-        Token::Constant(value, at) => Ok(Some(with_comparison(body, left, op, constant_term(value, at))?)),
+        Token::Constant(value, at) => Ok(Some(with_comparison(
+            body,
+            left,
+            op,
+            constant_term(value, at),
+        )?)),
         _ => Ok(None),
     }
 }

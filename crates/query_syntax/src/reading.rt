@@ -34,16 +34,13 @@ fn read_tokens(alloc: Global, text: &[u8]) -> Result<Syntax, ReadFault<u64>>
             rest = after;
             at += 1;
         } else {
-            match advance(alloc, state, at, rest) {
-                Err(_) => return Err(ReadFault::NoMemory),
-                Ok(None) => return Err(ReadFault::Broken(at)),
-                Ok(Some((next, len))) => {
-                    let (_, others) = rest.split_at(len);
-                    state = next;
-                    rest = others;
-                    at += len as u64;
-                }
-            }
+            let Some((next, len)) = advance(alloc, state, at, rest)? else {
+                return Err(ReadFault::Broken(at));
+            };
+            let (_, others) = rest.split_at(len);
+            state = next;
+            rest = others;
+            at += len as u64;
         }
     }
     match finished_query(state) {

@@ -8,20 +8,20 @@ loop-first-preserved-then-is_blank c = record {
   offset = omega (arith, c.loop-first.invariant.offset, ap length c.in-Some.ensures.cases.0);
 }
 
-pub returns-in-Ok-None : goal.returns-in-Ok-None
-returns-in-Ok-None c = keeps_stuck _ _ _ _ _ _ _ _ c.in-Some.ensures.cases.0 c.if-is_blank.ensures c.in-Ok-None.ensures c.in-Ok-None.field-0-is c.loop-first.invariant.same
+pub returns-in_default-2 : goal.returns-in_default-2
+returns-in_default-2 c = keeps_stuck _ _ _ _ _ _ _ _ c.in-Some.ensures.cases.0 c.if-is_blank.ensures c.in_ok-next.ensures c.in_default-2.is c.loop-first.invariant.same
 
 pub split_at-requires : goal.split_at-requires
-split_at-requires c = (step_fits _ _ _ _ _ _ c.in-Ok-Some.ensures c.in-Ok-Some.field-0-is).1
+split_at-requires c = (step_fits _ _ _ _ _ _ c.in_ok-next.ensures c.in-Some-2.is).1
 
 pub loop-first-smaller : goal.loop-first-smaller
 loop-first-smaller c =
-    let within = step_fits _ _ _ _ _ _ c.in-Ok-Some.ensures c.in-Ok-Some.field-0-is in
+    let within = step_fits _ _ _ _ _ _ c.in_ok-next.ensures c.in-Some-2.is in
     omega (arith, within, c.split_at.ensures.back_len)
 
 pub loop-first-preserved : goal.loop-first-preserved
 loop-first-preserved c = record {
-  same = keeps_step _ _ _ _ _ _ _ _ _ _ _ c.in-Some.ensures.cases.0 c.if-is_blank.ensures c.in-Ok-Some.ensures c.in-Ok-Some.field-0-is c.split_at.ensures.back c.loop-first.invariant.same;
+  same = keeps_step _ _ _ _ _ _ _ _ _ _ _ c.in-Some.ensures.cases.0 c.if-is_blank.ensures c.in_ok-next.ensures c.in-Some-2.is c.split_at.ensures.back c.loop-first.invariant.same;
   offset = omega (arith, c.split_at.ensures.back_len, c.loop-first.invariant.offset);
 }
 
