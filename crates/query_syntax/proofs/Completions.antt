@@ -2,7 +2,7 @@
 use Rattle.std.proofs.Common.{◌≡◌, [], ◌∷◌, ◌++◌, Some, append_assoc, append-nil, refl, sym, ap, subst, ◌∙◌}
 use Rattle.med_prelude.specs.Names.{continues_name, is_truth_word, starts_name}
 use Rattle.tuple_core.specs.declared.comparing.Op.{Op}
-use Rattle.query_syntax.specs.Grammar.{IsReal, Viable, query_tokens}
+use Rattle.query_syntax.specs.Grammar.{IsReal, IsViable, query_tokens}
 use Rattle.query_syntax.specs.Machine.{comparison_part, step, syntax_in, variable_term, with_part, with_term, with_variable}
 use Rattle.query_syntax.specs.Tokens.{truth_in}
 use Rattle.query_syntax.specs.declared.machine.Body.{Body}
@@ -43,14 +43,14 @@ real_stop = record { at = 0; bytes = 46 ∷ []; spelt = refl }
 
 -- a state that is sound has a completion
 record Lives (s : State) : Type 0 where
-  viable : IsSound s → Viable (spelled s)
+  viable : IsSound s → IsViable (spelled s)
 
 -- one token leads to a state that has one
 by_token : (s : State) (t : Token) (next : State) → IsReal t → step s t ≡ Some next → Lives next → Lives s
 by_token s t next real leads lives = record {
   viable = λ h.
       let kept : IsSound next × (spelled next ≡ spelled s ++ t ∷ []) = subst (Keeps s t) leads (keeps s t h) in
-      let later : Viable (spelled next) = lives.viable kept.0 in
+      let later : IsViable (spelled next) = lives.viable kept.0 in
       record {
         value = later.value;
         rest = t ∷ later.rest;
@@ -96,7 +96,7 @@ named n = by_token (Named n) Open (HeadStart (record { name = n; variables = [] 
 start : Lives Start
 start = by_token Start (Name x) (Named x) real_x refl (named x)
 
-pub lives : (s : State) → IsSound s → Viable (spelled s)
+pub lives : (s : State) → IsSound s → IsViable (spelled s)
 lives Start h = start.viable h
 lives (Named n) h = (named n).viable h
 lives (HeadStart q) h = (head_start q).viable h

@@ -1,10 +1,10 @@
 -- Reading, one token at a time.
 use Rattle.std.proofs.Common.{◌≡◌, ℕ, ◌+◌, ◌<◌, ◌≤◌, true, false, List, [], ◌∷◌, drop, length, Option, Some, None, Result, Err, arith, refl, sym, ap, ◌∙◌}
 use Rattle.med_prelude.specs.Reading.{or_at}
-use Rattle.text_reading.specs.Lexing.{Lexeme, lexeme, lexes}
-use Rattle.text_reading.specs.Machines.{read}
+use Rattle.text_reading.specs.Lexing.{Lexeme, lexeme, lexemes_from}
+use Rattle.text_reading.specs.Machines.{reading_by}
 use Rattle.text_reading.specs.Runs.{begins_blank, is_blank}
-use Rattle.text_reading.proofs.LexingLaws.{lexes-blank, lexes-junk, lexes-token}
+use Rattle.text_reading.proofs.LexingLaws.{lexemes_from-blank, lexemes_from-junk, lexemes_from-token}
 use Rattle.query_syntax.specs.Machine.{finished_query, step}
 use Rattle.query_syntax.specs.Reading.{advance, state_and_length, syntax_from, syntax_of}
 use Rattle.query_syntax.specs.Tokens.{lexicon, token_at}
@@ -30,11 +30,11 @@ step_junk (Compared b w o) = refl
 step_junk (PartEnd b) = refl
 step_junk (Done q) = refl
 
-read_dead : (size : ℕ) (s : State) (l : Lexeme Token) (ls : List (Lexeme Token)) → step s l.token ≡ None → read step finished_query size s (l ∷ ls) ≡ Err l.at
-read_dead size s l ls e = rw (e, read) refl
+read_dead : (size : ℕ) (s : State) (l : Lexeme Token) (ls : List (Lexeme Token)) → step s l.token ≡ None → reading_by step finished_query size s (l ∷ ls) ≡ Err l.at
+read_dead size s l ls e = rw (e, reading_by) refl
 
-read_live : (size : ℕ) (s next : State) (l : Lexeme Token) (ls : List (Lexeme Token)) → step s l.token ≡ Some next → read step finished_query size s (l ∷ ls) ≡ read step finished_query size next ls
-read_live size s next l ls e = rw (e, read) refl
+read_live : (size : ℕ) (s next : State) (l : Lexeme Token) (ls : List (Lexeme Token)) → step s l.token ≡ Some next → reading_by step finished_query size s (l ∷ ls) ≡ reading_by step finished_query size next ls
+read_live size s next l ls e = rw (e, reading_by) refl
 
 pub from_nothing : (size : ℕ) (s : State) (at : ℕ) → syntax_from size s at [] ≡ or_at size (finished_query s)
 unfolding syntax_from
@@ -42,25 +42,25 @@ from_nothing size s at = refl
 
 pub from_blank : (size : ℕ) (s : State) (at b : ℕ) (bytes : List ℕ) → is_blank b ≡ true → syntax_from size s at (b ∷ bytes) ≡ syntax_from size s (at + 1) bytes
 unfolding syntax_from
-from_blank size s at b bytes e = ap (read step finished_query size s) (lexes-blank lexicon at b bytes e)
+from_blank size s at b bytes e = ap (reading_by step finished_query size s) (lexemes_from-blank lexicon at b bytes e)
 
 from_junk : (size : ℕ) (s : State) (at b : ℕ) (bytes : List ℕ) → is_blank b ≡ false → token_at at (b ∷ bytes) ≡ None → syntax_from size s at (b ∷ bytes) ≡ Err at
 unfolding syntax_from
-from_junk size s at b bytes dark e = ap (read step finished_query size s) (lexes-junk lexicon at b bytes dark e) ∙ read_dead size s (lexeme token.Junk at) [] (step_junk s)
+from_junk size s at b bytes dark e = ap (reading_by step finished_query size s) (lexemes_from-junk lexicon at b bytes dark e) ∙ read_dead size s (lexeme token.Junk at) [] (step_junk s)
 
 from_dead : (size : ℕ) (s : State) (at b : ℕ) (bytes : List ℕ) (t : Token) (len : ℕ) → is_blank b ≡ false → token_at at (b ∷ bytes) ≡ Some (t, len) → step s t ≡ None
     → syntax_from size s at (b ∷ bytes) ≡ Err at
 unfolding syntax_from
 from_dead size s at b bytes t len dark e none =
-    ap (read step finished_query size s) (lexes-token lexicon at b len bytes t dark e (token_fits at (b ∷ bytes) t len e).0)
-    ∙ read_dead size s (lexeme t at) (lexes lexicon 0 (at + len) (drop len (b ∷ bytes))) none
+    ap (reading_by step finished_query size s) (lexemes_from-token lexicon at b len bytes t dark e (token_fits at (b ∷ bytes) t len e).0)
+    ∙ read_dead size s (lexeme t at) (lexemes_from lexicon 0 (at + len) (drop len (b ∷ bytes))) none
 
 from_live : (size : ℕ) (s next : State) (at b : ℕ) (bytes : List ℕ) (t : Token) (len : ℕ) → is_blank b ≡ false → token_at at (b ∷ bytes) ≡ Some (t, len) → step s t ≡ Some next
     → syntax_from size s at (b ∷ bytes) ≡ syntax_from size next (at + len) (drop len (b ∷ bytes))
 unfolding syntax_from
 from_live size s next at b bytes t len dark e some =
-    ap (read step finished_query size s) (lexes-token lexicon at b len bytes t dark e (token_fits at (b ∷ bytes) t len e).0)
-    ∙ read_live size s next (lexeme t at) (lexes lexicon 0 (at + len) (drop len (b ∷ bytes))) some
+    ap (reading_by step finished_query size s) (lexemes_from-token lexicon at b len bytes t dark e (token_fits at (b ∷ bytes) t len e).0)
+    ∙ read_live size s next (lexeme t at) (lexemes_from lexicon 0 (at + len) (drop len (b ∷ bytes))) some
 
 -- a step with the token that bytes begin with
 

@@ -2,10 +2,10 @@
 use Rattle.std.proofs.Common.{◌≡◌, ℕ, ◌+◌, ◌<◌, ◌≤◌, ◌==◌, ◌&&◌, Bool, true, false, cond, List, [], ◌∷◌, length, take, slice_index, Option, Some, None, IfSome, arith, refl, subst}
 use Rattle.std.proofs.lemmas.List.{length-take}
 use Rattle.med_prelude.specs.Names.{starts_name}
-use Rattle.text_reading.specs.Quoted.{quoted}
+use Rattle.text_reading.specs.Quoted.{quoted_text}
 use Rattle.text_reading.specs.Runs.{begins_integer, integer_run, name_in, name_run}
-use Rattle.text_reading.proofs.QuoteLaws.{quoted_within}
-use Rattle.tuple_core.specs.Parsing.{parsed}
+use Rattle.text_reading.proofs.QuoteLaws.{quoted_text_within}
+use Rattle.tuple_core.specs.Parsing.{parsed_value}
 use Rattle.tuple_core.specs.declared.columns.Kind.TheVariants as kind
 use Rattle.tuple_core.specs.declared.comparing.Op.{Op}
 use Rattle.tuple_core.specs.declared.comparing.Op.TheVariants as op
@@ -44,14 +44,14 @@ word_within at (b ∷ run) = by (truth_in (b ∷ run))
 
 integer_within : (at : ℕ) (run : List ℕ) → IsWithin run (integer_at at run)
 integer_within at [] = none_within []
-integer_within at (b ∷ run) = constant_within (b ∷ run) at (length (b ∷ run)) (omega arith) (omega arith) (parsed kind.Int (b ∷ run))
+integer_within at (b ∷ run) = constant_within (b ∷ run) at (length (b ∷ run)) (omega arith) (omega arith) (parsed_value kind.Int (b ∷ run))
 
 text_within : (at b : ℕ) (bytes : List ℕ) → IsWithin (b ∷ bytes) (text_at at bytes)
-text_within at b bytes = by (quoted bytes) (quoted_within bytes (quoted bytes) refl)
+text_within at b bytes = by (quoted_text bytes) (quoted_text_within bytes (quoted_text bytes) refl)
   where
-    by : (read : Option (List ℕ × ℕ)) → IfSome read (λ r. r.1 ≤ length bytes) → IsWithin (b ∷ bytes) (elim read [ None ↦ None | Some r ↦ constant_at at (r.1 + 1) (parsed kind.Text r.0) ])
+    by : (read : Option (List ℕ × ℕ)) → IfSome read (λ r. r.1 ≤ length bytes) → IsWithin (b ∷ bytes) (elim read [ None ↦ None | Some r ↦ constant_at at (r.1 + 1) (parsed_value kind.Text r.0) ])
     by None h = none_within (b ∷ bytes)
-    by (Some r) h = constant_within (b ∷ bytes) at (r.1 + 1) (omega arith) (omega arith) (parsed kind.Text r.0)
+    by (Some r) h = constant_within (b ∷ bytes) at (r.1 + 1) (omega arith) (omega arith) (parsed_value kind.Text r.0)
 
 -- a sign of two bytes
 two_within : {X : Type 0} (b first second : ℕ) (bytes : List ℕ) (x : X) (other : Option (X × ℕ)) → (0 == second) ≡ false → IsWithin (b ∷ bytes) other

@@ -71,8 +71,8 @@ abbrev pub Spells : List Token → Syntax → Type 0
 Spells = grammar.Spells query_tokens IsQuery IsReal
 
 -- real tokens continue them to those of a query
-abbrev pub Viable : List Token → Type 0
-Viable = grammar.Viable query_tokens IsQuery IsReal
+abbrev pub IsViable : List Token → Type 0
+IsViable = grammar.IsViable query_tokens IsQuery IsReal
 
 -- the offset of the first token that can't continue any query, or the length of a text that ends too early
 abbrev pub BreaksAt : List (Lexeme Token) → ℕ → ℕ → Type 0

@@ -2,10 +2,10 @@
 use Rattle.std.specs.Prelude.{ℕ, ◌+◌, ◌==◌, ◌&&◌, List, [], ◌∷◌, length, take, slice_index, Option, Some, None, if◌then◌else◌}
 use Rattle.med_prelude.specs.Names.{starts_name}
 use Rattle.med_prelude.specs.Texts.{Bytes}
-use Rattle.text_reading.specs.Lexing.{Lexeme, Lexicon, lexeme, lexes}
-use Rattle.text_reading.specs.Quoted.{quoted}
+use Rattle.text_reading.specs.Lexing.{Lexeme, Lexicon, lexeme, lexemes_from}
+use Rattle.text_reading.specs.Quoted.{quoted_text}
 use Rattle.text_reading.specs.Runs.{begins_blank, begins_integer, integer_run, is_blank, name_in, name_run}
-use Rattle.tuple_core.specs.Parsing.{parsed}
+use Rattle.tuple_core.specs.Parsing.{parsed_value}
 use Rattle.tuple_core.specs.declared.columns.Kind.TheVariants as kind
 use Rattle.tuple_core.specs.declared.comparing.Op.{Op}
 use Rattle.tuple_core.specs.declared.comparing.Op.TheVariants as op
@@ -25,7 +25,7 @@ name_at at len (Some name) = Some (token.Name (record { name = name; at = at }),
 
 -- the truth value that a run is
 unfoldable pub truth_in : Bytes → Option Value
-truth_in run = parsed kind.Bool run
+truth_in run = parsed_value kind.Bool run
 
 -- a run of letters, digits and `_`: a truth value or a name
 abbrev pub word_at : ℕ → Bytes → Option (Token × ℕ)
@@ -36,13 +36,13 @@ word_at at run = elim (truth_in run) [
 
 -- a run of a minus and digits
 abbrev pub integer_at : ℕ → Bytes → Option (Token × ℕ)
-integer_at at run = constant_at at (length run) (parsed kind.Int run)
+integer_at at run = constant_at at (length run) (parsed_value kind.Int run)
 
 -- the bytes behind an opening quote
 abbrev pub text_at : ℕ → Bytes → Option (Token × ℕ)
-text_at at bytes = elim (quoted bytes) [
+text_at at bytes = elim (quoted_text bytes) [
   | None ↦ None
-  | Some read ↦ constant_at at (read.1 + 1) (parsed kind.Text read.0)
+  | Some read ↦ constant_at at (read.1 + 1) (parsed_value kind.Text read.0)
 ]
 
 abbrev pub operator_at : Bytes → Option (Op × ℕ)
@@ -88,4 +88,4 @@ lexicon = record { is_blank = is_blank; token_at = token_at; junk = token.Junk }
 -- The tokens of a text with their offsets. Blanks stand between tokens and after the last one: a text that begins
 -- with a blank is junk.
 abbrev pub lexemes_of : Bytes → List (Lexeme Token)
-lexemes_of text = if begins_blank text then lexeme token.Junk 0 ∷ [] else lexes lexicon 0 0 text
+lexemes_of text = if begins_blank text then lexeme token.Junk 0 ∷ [] else lexemes_from lexicon 0 0 text

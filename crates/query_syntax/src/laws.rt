@@ -3,9 +3,9 @@
 ghost use Rattle.std.specs.Prelude.{false, ◌≡◌, ℕ, List, length, Some, None, Ok, Err};
 ghost use Rattle.med_prelude.specs.Texts.{Bytes};
 ghost use Rattle.text_reading.specs.Lexing.{AreTokensOf, tokens};
-ghost use Rattle.text_reading.specs.Machines.{run};
+ghost use Rattle.text_reading.specs.Machines.{state_after};
 ghost use Rattle.text_reading.specs.Runs.{begins_blank};
-ghost use Rattle.query_syntax.specs.Grammar.{BreaksAt, Spells, Viable};
+ghost use Rattle.query_syntax.specs.Grammar.{BreaksAt, Spells, IsViable};
 ghost use Rattle.query_syntax.specs.Machine.{step};
 ghost use Rattle.query_syntax.specs.Reading.{syntax_of};
 ghost use Rattle.query_syntax.specs.Tokens.{lexemes_of, lexicon};
@@ -29,6 +29,6 @@ pub fn grammar_is_exact()
         → query ≡ other }
     ensures exact { (text : Bytes) (at : ℕ) → syntax_of text ≡ Err at
         → BreaksAt (lexemes_of text) (length text) at }
-    ensures live { (ts : List AToken) (state : AState) → run step Start ts ≡ Some state → Viable ts }
-    ensures dead { (ts : List AToken) → run step Start ts ≡ None → Viable ts → ⊥ }
+    ensures live { (ts : List AToken) (state : AState) → state_after step Start ts ≡ Some state → IsViable ts }
+    ensures dead { (ts : List AToken) → state_after step Start ts ≡ None → IsViable ts → ⊥ }
 {}

@@ -1,13 +1,13 @@
 //! The tokens of a query's text.
 
 ghost use Rattle.std.specs.Prelude.{◌≡◌, IfOk};
-ghost use Rattle.tuple_core.specs.Parsing.{parsed};
+ghost use Rattle.tuple_core.specs.Parsing.{parsed_value};
 ghost use Rattle.query_syntax.specs.Tokens.{constant_at, integer_at, mark_at, operator_at, sign_at, text_at, token_at, truth_in, word_at};
 
 use crate::syntax::Word;
 use med_prelude::starts_name;
 use std::alloc::{AllocError, Global};
-use text_reading::{begins_integer, integer_run, name_in, name_run, quoted};
+use text_reading::{begins_integer, integer_run, name_in, name_run, quoted_text};
 use tuple_core::{Kind, Op, Value, parse_value};
 
 /// A token. Names and constants have the offset of their first byte.
@@ -74,7 +74,7 @@ fn constant_at(
     bytes: &[u8],
     len: usize,
 ) -> Result<Option<(Token, usize)>, AllocError>
-    ensures { IfOk result (λ read. read ≡ constant_at at len (parsed kind bytes.now)) }
+    ensures { IfOk result (λ read. read ≡ constant_at at len (parsed_value kind bytes.now)) }
 {
     match parse_value(alloc, kind, bytes)? {
         Some(value) => Ok(Some((Token::Constant(value, at), len))),
@@ -93,7 +93,7 @@ fn integer_at(alloc: Global, at: u64, run: &[u8]) -> Result<Option<(Token, usize
 fn text_at(alloc: Global, at: u64, bytes: &[u8]) -> Result<Option<(Token, usize)>, AllocError>
     ensures { IfOk result (λ read. read ≡ text_at at bytes.now) }
 {
-    match quoted(alloc, bytes)? {
+    match quoted_text(alloc, bytes)? {
         None => Ok(None),
         Some((text, taken)) => constant_at(alloc, Kind::Text, at, text.as_slice(), taken + 1),
     }

@@ -1,8 +1,8 @@
 use Rattle.std.proofs.Common.{arith}
-use Rattle.text_reading.proofs.QuoteLaws.{quoted_within}
+use Rattle.text_reading.proofs.QuoteLaws.{quoted_text_within}
 use Rattle.query_syntax.proofs.token.text_at.Goals as goal
 
 pub overflow_add-taken : goal.overflow_add-taken
 overflow_add-taken c =
-    let within = rw c.in-Some.is at (quoted_within c.args.bytes.now c.in_ok-quoted.field-0 c.in_ok-quoted.ensures) in
+    let within = rw c.in-Some.is at (quoted_text_within c.args.bytes.now c.in_ok-quoted_text.field-0 c.in_ok-quoted_text.ensures) in
     omega (arith, within, c.in-Some.taken-is)
