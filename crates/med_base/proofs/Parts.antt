@@ -8,7 +8,7 @@ take_seam a b xs =
     let within : a ≤ a + b = omega arith in
     rw (← take-take a (a + b) xs within, ← drop-take a b xs) (sym (take-append-drop a (take (a + b) xs)))
 
--- a piece that was copied from place a on stands in front of the room
+-- a piece that was copied from offset a on stands in front of the room
 pub take_copied : (a n : ℕ) (xs piece room : List ℕ) → piece ≡ take n (drop a xs) → length piece ≡ n → take (a + n) xs ≡ take a xs ++ take n (piece ++ room)
 take_copied a n xs piece room copied long =
     take_seam a n xs ∙ ap (λ more. take a xs ++ more) (sym copied ∙ sym (take_at piece room n long))

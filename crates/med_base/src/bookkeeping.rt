@@ -1,9 +1,9 @@
-//! What every outside object counts and keeps of its calls.
+//! What every outside object counts and keeps of its calls. Each object, in memory or real, is written with these words.
 
-ghost use Rattle.std.specs.Prelude.{◌≡◌, ◌+◌, ◌<◌, ◌≤◌, ◌↔◌, min, [], ◌∷◌, ◌++◌, Some, OnOk, OnErr, IfOk, IfErr};
+ghost use Rattle.std.specs.Prelude.{◌≡◌, ◌+◌, ◌<◌, ◌≤◌, ◌↔◌, min, [], ◌∷◌, ◌++◌, None, Some, OnOk, OnErr, IfOk, IfErr};
 ghost use Rattle.std.specs.IoError.{error_kind};
 ghost use Rattle.med_prelude.specs.Counts.{Rose, greatest_count};
-ghost use Rattle.med_base.specs.Clocks.{risen_after};
+ghost use Rattle.med_base.specs.Clocks.{rise_after};
 
 use crate::outside::{OutsideFault, SpillFault};
 use med_prelude::{Listed, Text, raise};
@@ -41,7 +41,7 @@ pub fn fault_of(error: Error, faults: &mut u64) -> OutsideFault
     }
 }
 
-/// The length of a spill file after an append of `need` bytes, or that it has no place for them.
+/// The length of a spill file after an append of `need` bytes, or that it has no room for them.
 pub fn end_within(len: u64, need: u64, limit: u64) -> Result<u64, SpillFault>
     ensures end { IfOk result (λ end. end ≡ len + need) }
     ensures fits { OnOk result (len + need ≤ limit) }
@@ -57,14 +57,28 @@ pub fn end_within(len: u64, need: u64, limit: u64) -> Result<u64, SpillFault>
 /// What a clock keeps of its readings.
 #[derive(Clone, Copy, Debug)]
 pub struct Readings {
+    /// The last reading, in milliseconds.
     pub last: Option<u64>,
+    /// By how many milliseconds they rose, all rises together.
     pub risen: u64,
 }
 
 impl Readings {
+    /// Those of a clock that was never read.
+    pub fn new() -> Self
+        ensures last { result.last ≡ None }
+        ensures risen { result.risen ≡ 0 }
+    {
+        Readings {
+            last: None,
+            risen: 0,
+        }
+    }
+
+    /// Keeps a reading, in milliseconds.
     pub fn note(&mut self, reading: u64)
         ensures last { self.new.last ≡ Some reading }
-        ensures risen { self.new.risen ≡ risen_after self.old.last reading self.old.risen }
+        ensures risen { self.new.risen ≡ rise_after self.old.last reading self.old.risen }
         ensures rises { self.old.risen ≤ self.new.risen }
     {
         if let Some(last) = self.last {

@@ -1,7 +1,7 @@
 //! Each outside object on its happy path, and what its script makes it answer.
 
 use crate::{
-    CalmOpener, Gate, MemOpener, MemShelf, MemSink, MemSource, NoGate, Opener, OutsideFault, Pull,
+    CalmOpener, MemOpener, MemShelf, MemSink, MemSource, Opener, OutsideFault, Pull,
     Script, Shelf, Sink, Site, Source, Stored, Turn,
 };
 use med_prelude::Text;
@@ -87,7 +87,9 @@ fn opener_in_memory(rt: HostRuntime) -> Result<(), Fail> {
 #[test]
 fn calm_opener_gives_the_empty_text_where_it_has_none(rt: HostRuntime) -> Result<(), Fail> {
     let alloc = rt.alloc();
-    let mut opener = CalmOpener::new(alloc, vec![in alloc; stored(alloc, "here", b"abcde")?]?);
+    let here = stored(alloc, "here", b"abcde")?;
+    assert!(rt; here.fits_source());
+    let mut opener = CalmOpener::new(alloc, vec![in alloc; here]?);
     let mut empty = opener.open_at(alloc, "there")?;
     assert_eq!(rt; empty.pull(&mut [0; 3]), Pull::End);
     assert_eq!(rt; opener.asked().len(), 1);
@@ -112,9 +114,4 @@ fn sink_in_memory_takes_pieces(rt: HostRuntime) -> Result<(), Fail> {
     let mut closed = MemSink::new(alloc, 0, vec![in alloc]?);
     assert_eq!(rt; closed.write(alloc, b"a"), Err(OutsideFault::Failed));
     Ok(())
-}
-
-#[test]
-fn nothing_is_held_back(_rt: HostRuntime) {
-    NoGate.pass(0);
 }

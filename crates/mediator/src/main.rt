@@ -3,7 +3,7 @@
 
 use med_base::{NoGate, Sink, Status};
 use med_top::mediate;
-use real_outside::{FileOpener, FileShelf, FileSpills, RealClock, StdSink};
+use real_outside::{FileOpener, FileShelf, FileSpills, RealClock, StdSink, spill_folder};
 use std::alloc::AllocError;
 use std::os::unix::fs::FileExt;
 use std::process::ExitCode;
@@ -25,14 +25,6 @@ fn words_of<R: Env + AllocGlobal>(rt: &R) -> Result<Words, AllocError> {
         Err(_) => {}
     }
     Ok(words)
-}
-
-/// The folder of the system for temporary files, where spill files go.
-fn spill_folder<R: Env + AllocGlobal>(rt: &R) -> Result<Text, AllocError> {
-    match env::temp_dir(rt) {
-        Ok(folder) => Text::from_str(rt.alloc(), folder.as_path().as_str()),
-        Err(_) => Text::from_str(rt.alloc(), "/tmp"),
-    }
 }
 
 fn run<R: Threads + Sync + AllocGlobal + Env + Files + Clock + Print, E: Sink>(

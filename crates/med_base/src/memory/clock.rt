@@ -22,10 +22,7 @@ impl ScriptClock {
         ScriptClock {
             script,
             calls: 0,
-            readings: Readings {
-                last: None,
-                risen: 0,
-            },
+            readings: Readings::new(),
         }
     }
 
@@ -56,31 +53,33 @@ impl Clock for ScriptClock {
 #[cfg(test)]
 mod tests {
     use super::*;
+    use crate::{Gate, NoGate};
     use std::test::Fail;
 
     #[test]
     fn falls_are_not_taken_off_what_rose(rt: HostRuntime) -> Result<(), Fail> {
-        let mut clock = ScriptClock::new(vec![in rt.alloc(); 10, 4, 9]?);
-        assert_eq!(rt; clock.readings.last, None);
-        let steps = [(10, 0), (4, 0), (9, 5), (9, 5)];
-        for (reading, risen) in steps {
-            assert_eq!(rt; clock.now(), reading);
-            assert_eq!(rt; clock.readings.risen, risen);
-            clock.rest(7);
-            assert_eq!(rt; clock.readings.last, Some(reading));
+        let alloc = rt.alloc();
+        let scripts = [
+            vec![in alloc; 10, 4, 9]?,
+            vec![in alloc; 0, u64::MAX, 1, 3]?,
+            vec![in alloc]?,
+        ];
+        let steps = [
+            [(10, 0), (4, 0), (9, 5), (9, 5)],
+            [(0, 0), (u64::MAX, u64::MAX), (1, u64::MAX), (3, u64::MAX)],
+            [(0, 0), (0, 0), (0, 0), (0, 0)],
+        ];
+        for (script, steps) in scripts.into_iter().zip(steps) {
+            let mut clock = ScriptClock::new(script);
+            assert_eq!(rt; clock.readings.last, None);
+            for (reading, risen) in steps {
+                NoGate.pass(0);
+                assert_eq!(rt; clock.now(), reading);
+                clock.rest(7);
+                assert_eq!(rt; clock.readings.last, Some(reading));
+                assert_eq!(rt; clock.readings.risen, risen);
+            }
         }
-        Ok(())
-    }
-
-    #[test]
-    fn what_rose_stands_still_at_its_end(rt: HostRuntime) -> Result<(), Fail> {
-        let mut clock = ScriptClock::new(vec![in rt.alloc(); 0, u64::MAX, 1, 3]?);
-        for _ in 0..4 {
-            clock.now();
-        }
-        assert_eq!(rt; clock.readings.risen, u64::MAX);
-        let mut empty = ScriptClock::new(vec![in rt.alloc()]?);
-        assert_eq!(rt; empty.now(), 0);
         Ok(())
     }
 }

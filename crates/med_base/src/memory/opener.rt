@@ -1,6 +1,6 @@
 //! An opener in memory.
 
-ghost use Rattle.std.specs.Prelude.{◌≡◌, ◌≤◌, ◌^◌, [], find, length, option_copied, IfOk, Some};
+ghost use Rattle.std.specs.Prelude.{◌≡◌, ◌≤◌, [], find, length, option_copied, IfOk, Some};
 ghost use Rattle.med_base.specs.Sites.{is_at, text_at};
 
 use super::script::Script;
@@ -10,7 +10,7 @@ use crate::outside::{OpenFault, Opener, Source};
 use med_prelude::{Listed, Text};
 use std::alloc::{AllocError, Global};
 
-/// The most bytes of a text that can be opened.
+/// The most bytes of a text that can be opened: as many as a source may have left.
 pub const TEXT_MOST: usize = 1 << 62;
 
 /// A location with its text, and how a source there behaves.

@@ -1,8 +1,9 @@
 //! A shelf in memory.
 
-ghost use Rattle.std.specs.Prelude.{◌≡◌, ◌≤◌, [], find, length, take, option_copied, IfOk};
-ghost use Rattle.med_base.specs.Stored.{is_named, text_named};
+ghost use Rattle.std.specs.Prelude.{◌≡◌, ◌≤◌, ◌↔◌, [], find, length, take, option_copied, IfOk, IsTrue};
+ghost use Rattle.med_base.specs.Stored.{FitsSource, is_named, text_named};
 
+use super::opener::TEXT_MOST;
 use crate::bookkeeping::{counted_fault, note_asked};
 use crate::outside::{FETCHED_MOST, FetchFault, Shelf};
 use med_prelude::{Listed, Text};
@@ -45,6 +46,15 @@ impl MemShelf {
         ensures { result.now ≡ ⟦<MemShelf as Shelf>⟧.asked self.now }
     {
         self.asked.as_slice()
+    }
+}
+
+impl Stored {
+    /// Whether the text is no longer than what a source can give.
+    pub fn fits_source(&self) -> bool
+        ensures { IsTrue result ↔ FitsSource self.now }
+    {
+        self.bytes.len() <= TEXT_MOST
     }
 }
 

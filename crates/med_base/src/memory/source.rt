@@ -11,14 +11,15 @@ use med_prelude::{Text, raise};
 pub struct MemSource {
     location: Text,
     text: Vec<u8>,
-    place: usize,
+    /// The offset of the next byte.
+    at: usize,
     script: Script,
     pulls: usize,
     faults: u64,
     waits: u64,
     dry: u64,
     mark: u64,
-    ghost within: { place ≤ length text.items },
+    ghost within: { at ≤ length text.items },
 }
 
 impl MemSource {
@@ -36,7 +37,7 @@ impl MemSource {
         MemSource {
             location,
             text,
-            place: 0,
+            at: 0,
             script,
             pulls: 0,
             faults: 0,
@@ -54,7 +55,7 @@ impl Source for MemSource {
 
     ghost location = { λ s. s.location };
 
-    ghost taken = { λ s. Some (take s.place s.text.items) };
+    ghost taken = { λ s. Some (take s.at s.text.items) };
 
     ghost whole = { λ s. Some s.text.items };
 
@@ -64,7 +65,7 @@ impl Source for MemSource {
 
     ghost dry = { λ s. s.dry };
 
-    ghost left = { λ s. length s.text.items - s.place };
+    ghost left = { λ s. length s.text.items - s.at };
 
     fn pull(&mut self, room: &mut [u8]) -> Pull {
         let turn = self.script.turn(self.pulls);
@@ -72,11 +73,11 @@ impl Source for MemSource {
         match turn {
             Turn::Give(most) => {
                 self.dry = 0;
-                if self.place == self.text.len() {
+                if self.at == self.text.len() {
                     return Pull::End;
                 }
-                let count = copy_from(self.text.as_slice(), self.place, most, room);
-                self.place += count;
+                let count = copy_from(self.text.as_slice(), self.at, most, room);
+                self.at += count;
                 Pull::Bytes(count)
             }
             Turn::NotYet => {
@@ -93,17 +94,17 @@ impl Source for MemSource {
     }
 }
 
-/// Copies bytes of the text from a place on to the start of the room, and answers how many: at most `most`,
+/// Copies bytes of the text from an offset on to the start of the room, and answers how many: at most `most`,
 /// but one at least where there are any and the room isn't empty.
-pub fn copy_from(text: &[u8], place: usize, most: usize, room: &mut [u8]) -> usize
-    requires { place ≤ length text.now }
+pub fn copy_from(text: &[u8], at: usize, most: usize, room: &mut [u8]) -> usize
+    requires { at ≤ length text.now }
     ensures fits { result ≤ length room.old }
-    ensures within { place + result ≤ length text.now }
-    ensures bytes { take (place + result) text.now ≡ take place text.now ++ take result room.new }
+    ensures within { at + result ≤ length text.now }
+    ensures bytes { take (at + result) text.now ≡ take at text.now ++ take result room.new }
     ensures most { result ≤ max most 1 }
-    ensures some { place < length text.now → 0 < length room.old → 0 < result }
+    ensures some { at < length text.now → 0 < length room.old → 0 < result }
 {
-    let (_, rest) = text.split_at(place);
+    let (_, rest) = text.split_at(at);
     let count = rest.len().min(room.len()).min(most.max(1));
     room[..count].copy_from_slice(&rest[..count]);
     count

@@ -1,7 +1,7 @@
 //! A spill file in memory, some of whose calls fail.
 
 ghost use Rattle.std.specs.Prelude.{◌≡◌, []};
-ghost use Rattle.med_base.specs.Spills.{IsFreshFile, Told};
+ghost use Rattle.med_base.specs.Spills.{IsFreshFile, TellsBytes};
 
 use super::calm::fill_from;
 use crate::bookkeeping::{counted_fault, end_within};
@@ -32,7 +32,7 @@ impl MemSpill {
     /// An empty file of the script's number, which takes at most `limit` bytes.
     pub fn new(alloc: Global, limit: u64, script: SpillScript) -> Self
         ensures fresh { IsFreshFile script.file limit (⟦<MemSpill as Spill>⟧.state result) }
-        ensures told { (⟦<MemSpill as Spill>⟧.state result).content ≡ Told [] }
+        ensures told { (⟦<MemSpill as Spill>⟧.state result).content ≡ TellsBytes [] }
     {
         MemSpill {
             limit,
@@ -46,7 +46,7 @@ impl MemSpill {
 }
 
 impl Spill for MemSpill {
-    ghost state = { λ s. record { number = s.script.file; limit = s.limit; content = Told s.bytes.items; past_end = []; faults = s.faults } };
+    ghost state = { λ s. record { number = s.script.file; limit = s.limit; content = TellsBytes s.bytes.items; past_end = []; faults = s.faults } };
 
     fn append(&mut self, _alloc: Global, bytes: &[u8]) -> Result<u64, SpillFault> {
         let call = self.appends;

@@ -1,8 +1,8 @@
 //! A source: a stream of bytes that may be slow, and may fail.
 
-ghost use Rattle.std.specs.Prelude.{◌≡◌, ◌+◌, ◌≤◌, ℕ, List, Option, length};
+ghost use Rattle.std.specs.Prelude.{◌≡◌, ◌+◌, ◌≤◌, ℕ, length};
 ghost use Rattle.med_prelude.specs.Counts.{Rose};
-ghost use Rattle.med_prelude.specs.Texts.{grown, IfBothTold, IsPrefix};
+ghost use Rattle.med_prelude.specs.Texts.{Bytes, ToldBytes, grown, IfBothTold, IsPrefix};
 ghost use Rattle.med_base.specs.Outside.{bytes_count, bytes_given, FitsRoom, EndsOnlyWhole, IfPullFailed, CountsWait, dry_after, StaysTold};
 
 /// What a pull gave.
@@ -15,19 +15,27 @@ pub enum Pull {
     Failed,
 }
 
+/// A source of bytes, of one text that is given from its start to its end.
+///
+/// `NotYet` may come at any call and as often as it likes: a caller that waits counts how often. A source may be
+/// pulled again after each answer; bytes that come after a failure go on where those before it stopped. Why it
+/// failed isn't told. A pull takes no memory, so there is no answer for want of it. Dropping a source closes what
+/// it reads.
 pub trait Source: Drop {
     /// What a mark is: data that no call changes, by which an opener names what it gave.
     type Mark;
 
+    /// What its opener calls it.
     ghost mark: { Self → Self.Mark };
 
-    ghost location: { Self → List ℕ };
+    /// Where it was opened.
+    ghost location: { Self → Bytes };
 
     /// The bytes that were taken so far.
-    ghost taken: { Self → Option (List ℕ) };
+    ghost taken: { Self → ToldBytes };
 
     /// The whole text.
-    ghost whole: { Self → Option (List ℕ) };
+    ghost whole: { Self → ToldBytes };
 
     /// How often it failed.
     ghost faults: { Self → ℕ };
@@ -41,7 +49,7 @@ pub trait Source: Drop {
     /// The most bytes that it can still give.
     ghost left: { Self → ℕ };
 
-    /// The next bytes, as many as it has at hand and the room takes.
+    /// The next bytes, as many as it has at hand and the room takes. Behind them the room's bytes aren't stated.
     fn pull(&mut self, room: &mut [u8]) -> Pull
         ensures fits { FitsRoom result room.new }
         ensures taken { taken self.new ≡ grown (taken self.old) (bytes_given result room.new) }

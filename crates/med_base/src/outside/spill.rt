@@ -2,7 +2,7 @@
 
 ghost use Rattle.std.specs.Prelude.{◌≡◌, ◌≤◌, ℕ, List};
 ghost use Rattle.med_prelude.specs.Counts.{Rose};
-ghost use Rattle.med_base.specs.Spills.{FileState, Appends, AsksMake, IfMakeFailed, Makes, Reads, spill_fault};
+ghost use Rattle.med_base.specs.Spills.{FileState, AnswersAppend, AnswersRead, AsksForFile, IfMakeFailed, MakesFile, spill_fault};
 ghost use Rattle.med_base.specs.declared.outside.spill.SpillFault.TheVariants.{NoMemory};
 
 use super::OutsideFault;
@@ -16,7 +16,7 @@ pub enum SpillFault {
     #[error("the spill file failed")]
     Failed,
     /// The length and so many bytes more, those of the append, would pass the file's limit.
-    #[error("the spill file has no place for {need} bytes more within its limit of {limit}")]
+    #[error("the spill file has no room for {need} bytes more within its limit of {limit}")]
     Full { need: u64, limit: u64 },
     #[error("out of memory")]
     NoMemory,
@@ -53,6 +53,10 @@ impl<T: Drop> From<AllocFailed<T>> for SpillFault {
 pub type Files<F> = Listed<F>;
 
 /// A set of spill files: it makes them by number.
+///
+/// Each call makes a new file, also where the number was made before. A file doesn't borrow from its set, may be
+/// used in another thread, and is gone with all that it holds when it is dropped. A set is never full. Only want
+/// of memory may be answered without the set's count of faults having risen; a set that failed may be asked again.
 pub trait SpillSet {
     type F: Spill + Send;
 
@@ -62,23 +66,31 @@ pub trait SpillSet {
     /// The numbers and limits of its calls, in order. Room for a pair is made before anything else.
     ghost asked: { Self → List (ℕ × ℕ) };
 
-    /// An empty file of that number, which takes at most `limit` bytes.
+    /// An empty file of that number, which takes at most `limit` bytes. `alloc` is used for what the set notes
+    /// down.
     fn make(&mut self, alloc: Global, number: u32, limit: u64) -> Result<Self::F, SpillFault>
-        ensures file { Makes (λ f. Self.F.state f) number limit result }
-        ensures asked { AsksMake result (number, limit) (asked self.old) (asked self.new) }
+        ensures file { MakesFile (λ f. Self.F.state f) number limit result }
+        ensures asked { AsksForFile result (number, limit) (asked self.old) (asked self.new) }
         ensures faults { faults self.old ≤ faults self.new }
         ensures failed { IfMakeFailed result (Rose (faults self.old) (faults self.new)) };
 }
 
+/// A spill file, which is written at its end and read anywhere.
+///
+/// What was appended stays as it is. `Full` comes exactly where the bytes would pass the file's limit, and changes
+/// nothing. Only want of memory, in an append, may be answered without the file's count of faults having risen.
+/// A failed append leaves the length and what stood there; what it may have left past the end is overwritten by
+/// the next one, and a read may see it until then.
 pub trait Spill: Drop {
     /// Its number and limit, its content with its length, and how often it failed.
     ghost state: { Self → FileState };
 
-    /// Puts the bytes behind the content, and answers the place where they begin.
+    /// Puts the bytes behind the content, all of them, and answers the offset at which they begin.
     fn append(&mut self, alloc: Global, bytes: &[u8]) -> Result<u64, SpillFault>
-        ensures appends { Appends (state self.old) bytes.now result (state self.new) };
+        ensures appends { AnswersAppend (state self.old) bytes.now result (state self.new) };
 
-    /// Fills the room with the content from a place on, as far as either goes, and answers how many bytes it put.
+    /// Fills the room with the content from an offset on, as far as either goes, and answers how many bytes it
+    /// put. An offset past the end puts none. The bytes of the room behind them aren't stated.
     fn read_at(&mut self, at: u64, room: &mut [u8]) -> Result<usize, SpillFault>
-        ensures reads { Reads (state self.old) at result room.new (state self.new) };
+        ensures reads { AnswersRead (state self.old) at result room.new (state self.new) };
 }

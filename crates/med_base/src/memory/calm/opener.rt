@@ -1,11 +1,11 @@
 //! An opener in memory that never fails.
 
-ghost use Rattle.std.specs.Prelude.{◌≡◌, ◌^◌, ◌≤◌, [], length, IfOk, unwrap_or};
-ghost use Rattle.med_base.specs.Stored.{text_named, text_or_empty};
+ghost use Rattle.std.specs.Prelude.{◌≡◌, ◌≤◌, [], length, IfOk, unwrap_or};
+ghost use Rattle.med_base.specs.Outside.{most_left};
+ghost use Rattle.med_base.specs.Stored.{FitSources, text_named, text_or_empty};
 
 use super::CalmSource;
 use crate::bookkeeping::note_asked;
-use crate::memory::opener::TEXT_MOST;
 use crate::memory::shelf::{Stored, stored_at};
 use crate::outside::{OpenFault, Opener};
 use med_prelude::{Listed, Text};
@@ -17,12 +17,14 @@ pub struct CalmOpener {
     texts: Vec<Stored>,
     asked: Listed<Text>,
     given: Vec<u64>,
+    ghost short: { FitSources texts.items },
 }
 
 impl CalmOpener {
-    /// An opener with these texts by their locations, of which the first of a location counts. There is no
-    /// memory for the source of a text of more than 2^62 bytes.
+    /// An opener with these texts by their locations, of which the first of a location counts. None may be
+    /// longer than what a source can give, which `Stored::fits_source` tests.
     pub fn new(alloc: Global, texts: Vec<Stored>) -> Self
+        requires { FitSources texts.items }
         ensures told { ⟦<CalmOpener as Opener>⟧.told result ≡ text_or_empty texts.items }
         ensures asked { ⟦<CalmOpener as Opener>⟧.asked result ≡ [] }
         ensures given { ⟦<CalmOpener as Opener>⟧.given result ≡ [] }
@@ -63,14 +65,14 @@ impl Opener for CalmOpener {
     }
 }
 
-/// A copy of the text of a location.
+/// A copy of the text of a location, or the empty text.
 fn text_for(alloc: Global, texts: &[Stored], location: &str) -> Result<Vec<u8>, AllocError>
+    requires { FitSources texts.now }
     ensures text { IfOk result (λ text. text.items ≡ unwrap_or (text_named texts.now location.now) []) }
-    ensures short { IfOk result (λ text. length text.items ≤ 2 ^ 62) }
+    ensures short { IfOk result (λ text. length text.items ≤ most_left) }
 {
     match stored_at(texts, location) {
         None => Ok(Vec::new(alloc)),
-        Some(stored) if TEXT_MOST < stored.bytes.len() => Err(AllocError),
         Some(stored) => Vec::from_slice(alloc, stored.bytes.as_slice()),
     }
 }

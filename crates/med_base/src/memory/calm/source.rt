@@ -11,9 +11,10 @@ use med_prelude::Text;
 pub struct CalmSource {
     location: Text,
     text: Vec<u8>,
-    place: usize,
+    /// The offset of the next byte.
+    at: usize,
     mark: u64,
-    ghost within: { place ≤ length text.items },
+    ghost within: { at ≤ length text.items },
 }
 
 impl CalmSource {
@@ -28,7 +29,7 @@ impl CalmSource {
         CalmSource {
             location,
             text,
-            place: 0,
+            at: 0,
             mark,
         }
     }
@@ -41,7 +42,7 @@ impl Source for CalmSource {
 
     ghost location = { λ s. s.location };
 
-    ghost taken = { λ s. Some (take s.place s.text.items) };
+    ghost taken = { λ s. Some (take s.at s.text.items) };
 
     ghost whole = { λ s. Some s.text.items };
 
@@ -51,14 +52,14 @@ impl Source for CalmSource {
 
     ghost dry = { λ _. 0 };
 
-    ghost left = { λ s. length s.text.items - s.place };
+    ghost left = { λ s. length s.text.items - s.at };
 
     fn pull(&mut self, room: &mut [u8]) -> Pull {
-        if self.place == self.text.len() {
+        if self.at == self.text.len() {
             return Pull::End;
         }
-        let count = copy_from(self.text.as_slice(), self.place, usize::MAX, room);
-        self.place += count;
+        let count = copy_from(self.text.as_slice(), self.at, usize::MAX, room);
+        self.at += count;
         Pull::Bytes(count)
     }
 }

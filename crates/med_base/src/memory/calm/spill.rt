@@ -1,7 +1,7 @@
 //! Spill files in memory that never fail.
 
 ghost use Rattle.std.specs.Prelude.{◌≡◌, ◌≤◌, [], length};
-ghost use Rattle.med_base.specs.Spills.{Fills, IsFreshFile, Told};
+ghost use Rattle.med_base.specs.Spills.{FillsRoom, IsFreshFile, TellsBytes};
 
 use crate::bookkeeping::end_within;
 use crate::outside::{Spill, SpillFault, SpillSet};
@@ -20,7 +20,7 @@ impl CalmSpill {
     /// An empty file of that number, which takes at most `limit` bytes.
     pub fn new(alloc: Global, number: u32, limit: u64) -> Self
         ensures fresh { IsFreshFile number limit (⟦<CalmSpill as Spill>⟧.state result) }
-        ensures told { (⟦<CalmSpill as Spill>⟧.state result).content ≡ Told [] }
+        ensures told { (⟦<CalmSpill as Spill>⟧.state result).content ≡ TellsBytes [] }
     {
         CalmSpill {
             number,
@@ -31,7 +31,7 @@ impl CalmSpill {
 }
 
 impl Spill for CalmSpill {
-    ghost state = { λ s. record { number = s.number; limit = s.limit; content = Told s.bytes.items; past_end = []; faults = 0 } };
+    ghost state = { λ s. record { number = s.number; limit = s.limit; content = TellsBytes s.bytes.items; past_end = []; faults = 0 } };
 
     fn append(&mut self, _alloc: Global, bytes: &[u8]) -> Result<u64, SpillFault> {
         let at = self.bytes.len() as u64;
@@ -52,6 +52,7 @@ pub struct CalmSpills {
 }
 
 impl CalmSpills {
+    /// A set that made nothing yet.
     pub fn new(alloc: Global) -> Self
         ensures { ⟦<CalmSpills as SpillSet>⟧.asked result ≡ [] }
     {
@@ -81,10 +82,10 @@ impl SpillSet for CalmSpills {
     }
 }
 
-/// Puts the bytes of the text from a place on into the room, as far as either goes, and answers how many.
+/// Puts the bytes of the text from an offset on into the room, as far as either goes, and answers how many.
 pub fn fill_from(text: &[u8], at: u64, room: &mut [u8]) -> usize
     ensures fits { result ≤ length room.new }
-    ensures fills { Fills text.now at result room.new }
+    ensures fills { FillsRoom text.now at result room.new }
 {
     if text.len() as u64 <= at {
         return 0;
