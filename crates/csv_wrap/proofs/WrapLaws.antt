@@ -11,10 +11,11 @@ use Rattle.med_prelude.specs.Texts.{IsWhole}
 use Rattle.tuple_core.specs.declared.columns.Column.{Column}
 use Rattle.tuple_core.specs.declared.value.Value.{Value}
 use Rattle.csv_frame.specs.Frames.{frames}
-use Rattle.csv_wrap.specs.Rows.{before, clean, fails, read_frames, reading}
-use Rattle.csv_wrap.specs.Sound.{FailedByBytes, FailedByRead, IsSoundEnd, IsSoundSoFar, is_all, taken_reading}
-use Rattle.csv_wrap.proofs.VerdictLaws.{bad_kept}
-use Rattle.csv_wrap.specs.Ahead.{Ahead, HoldsNothing, IsReadAhead, KeepsFuture, faulted, future, unless_bad}
+use Rattle.csv_wrap.specs.Rows.{source_rows, source_verdict}
+use Rattle.csv_wrap.specs.Readings.{Reading, before, clean, fails, read_frames, source_reading}
+use Rattle.csv_wrap.specs.Sound.{FailedByBytes, FailedByRead, IsOfBytes, IsSoundEnd, IsSoundSoFar, is_all, taken_rows}
+use Rattle.csv_wrap.proofs.VerdictLaws.{bad_kept, not_read}
+use Rattle.csv_wrap.specs.Ahead.{Ahead, HoldsNothing, IsReadAhead, KeepsFuture, fault_behind, future, unless_bad}
 use Rattle.med_prelude.specs.Counts.{Rose}
 use Rattle.csv_wrap.specs.declared.wrapper.Pulled.{Pulled}
 use Rattle.csv_wrap.specs.declared.wrapper.Pulled.TheVariants as pulled
@@ -33,9 +34,18 @@ all_itself whole bytes e = rw e ((bytes_decides bytes bytes).1 refl)
 
 -- what is given and to be given, where nothing follows
 now_read : {S : Type 0} (w : Wrapped S) (bytes : List ℕ) (given : List (List Value)) (ended : Bool) → Continues w bytes given → (w.ahead.framed.ended ≡ true → ended ≡ true)
-    → reading w.ahead.columns bytes ended ≡ before given (future w.ahead (w.kept ++ []) ended)
+    → source_reading w.ahead.columns bytes ended ≡ before given (future w.ahead (w.kept ++ []) ended)
 now_read w bytes given ended h told =
-    ap (λ (bs : List ℕ). reading w.ahead.columns bs ended) (sym (append-nil bytes)) ∙ h [] ended (λ t. (refl, told t))
+    ap (λ (bs : List ℕ). source_reading w.ahead.columns bs ended) (sym (append-nil bytes)) ∙ h [] ended (λ t. (refl, told t))
+
+rows_is : {a b : Reading} → a ≡ b → a.rows ≡ b.rows
+rows_is e = ap (λ (r : Reading). r.rows) e
+
+verdict_is : {a b : Reading} → a ≡ b → a.verdict ≡ b.verdict
+verdict_is e = ap (λ (r : Reading). r.verdict) e
+
+of_bytes : (bad : Option MemberFault) (why : MemberFault) → bad ≡ Some why → IfSome bad IsOfBytes → IsOfBytes why
+of_bytes bad why e is = let P : Option MemberFault → Type 0 = λ v. IfSome v IsOfBytes in subst P e is
 
 sound_so_far : {S : Type 0} (w : Wrapped S) (taken whole : Option (List ℕ)) (given : List (List Value)) → (w.ahead.framed.ended ≡ true → IsWhole taken whole)
     → w.accepted ≡ length given → IfSome taken (λ bytes. Continues w bytes given) → IsSoundSoFar w.ahead.columns taken whole w.accepted
@@ -43,7 +53,7 @@ sound_so_far w None whole given all count h = tt
 sound_so_far w (Some bytes) whole given all count h =
     let e = is_all whole bytes in
     let r = now_read w bytes given e h (λ t. all_itself whole bytes (all t)) in
-    rw r (omega (arith, count, length-append given (future w.ahead (w.kept ++ []) e).rows))
+    omega (arith, count, ap length (rows_is r), length-append given (future w.ahead (w.kept ++ []) e).rows)
 
 -- nothing is still to be given where nothing is held
 none_left : (a : Ahead) (kept : List ℕ) (ended : Bool) → HoldsNothing a → a.framed.ended ≡ ended → kept ≡ [] → (ended && (a.number == 0)) ≡ false → future a (kept ++ []) ended ≡ clean
@@ -69,23 +79,23 @@ sound_end : {S : Type 0} (w : Wrapped S) (taken whole : Option (List ℕ)) (give
 sound_end w None whole given all told k nothing some count h = (all, tt)
 sound_end w (Some bytes) whole given all told k nothing some count h =
     let r = now_read w bytes given true h (λ t. refl) ∙ ap (before given) (none_left w.ahead w.kept true nothing told k (some_number w.ahead.number some)) ∙ given_clean given in
-    (all, (rw r count, rw r refl))
+    (all, (count ∙ sym (ap length (rows_is r)), verdict_is r))
 
 failed_by_read : {S : Type 0} (w : Wrapped S) (taken : Option (List ℕ)) (faults : ℕ) (given : List (List Value)) → 1 ≤ faults → w.ahead.framed.ended ≡ false → w.kept ≡ [] → HoldsNothing w.ahead
     → w.accepted ≡ length given → IfSome taken (λ bytes. Continues w bytes given) → FailedByRead w.ahead.columns taken faults w.accepted fault.Read
 failed_by_read w None faults given some unended k nothing count h = (refl, some, tt)
 failed_by_read w (Some bytes) faults given some unended k nothing count h =
     let r = now_read w bytes given false h (λ t. absurd (let clash : false ≡ true = sym unended ∙ t in cc)) ∙ ap (before given) (none_left w.ahead w.kept false nothing unended k refl) ∙ given_clean given in
-    (refl, some, rw r count)
+    (refl, some, count ∙ sym (ap length (rows_is r)))
 
-failed_by_bytes : {S : Type 0} (w : Wrapped S) (taken whole : Option (List ℕ)) (given : List (List Value)) (why : MemberFault) → (w.ahead.framed.ended ≡ true → IsWhole taken whole) → w.ahead.rows ≡ [] → w.ahead.bad ≡ Some why
+failed_by_bytes : {S : Type 0} (w : Wrapped S) (taken whole : Option (List ℕ)) (given : List (List Value)) (why : MemberFault) → (w.ahead.framed.ended ≡ true → IsWhole taken whole) → w.ahead.rows ≡ [] → w.ahead.bad ≡ Some why → IfSome w.ahead.bad IsOfBytes
     → w.accepted ≡ length given → IfSome taken (λ bytes. Continues w bytes given) → FailedByBytes w.ahead.columns taken whole w.accepted why
-failed_by_bytes w None whole given why all rows bad count h = tt
-failed_by_bytes w (Some bytes) whole given why all rows bad count h =
+failed_by_bytes w None whole given why all rows bad of count h = (of_bytes w.ahead.bad why bad of, tt)
+failed_by_bytes w (Some bytes) whole given why all rows bad of count h =
     let e = is_all whole bytes in
     let left : future w.ahead (w.kept ++ []) e ≡ fails why = rw (rows, bad) refl in
     let r = now_read w bytes given e h (λ t. all_itself whole bytes (all t)) ∙ ap (before given) left ∙ given_bad given why in
-    (rw r count, rw r refl)
+    (of_bytes w.ahead.bad why bad of, (count ∙ sym (ap length (rows_is r)), verdict_is r))
 
 pub sound_active : {S M : Type 0} (source : Source S M) (w : Wrapped S) → IsWrapped source w → SoundAs source w state.Active None
 sound_active source w is given h = sound_so_far w (source.taken w.source) (source.whole w.source) given is.whole h.0 h.1
@@ -93,9 +103,9 @@ sound_active source w is given h = sound_so_far w (source.taken w.source) (sourc
 pub sound_ended : {S M : Type 0} (source : Source S M) (w : Wrapped S) → IsWrapped source w → w.ahead.framed.ended ≡ true → HoldsNothing w.ahead → 0 < w.ahead.number → SoundAs source w state.Ended None
 sound_ended source w is told nothing some given h = sound_end w (source.taken w.source) (source.whole w.source) given (is.whole told) told (is.fed told) nothing some h.0 h.1
 
-faulted_is : (rows : List (List Value)) (bad : Option MemberFault) (why : MemberFault) → faulted rows bad ≡ Some why → (rows ≡ []) × (bad ≡ Some why)
-faulted_is [] bad why e = (refl, e)
-faulted_is (row ∷ rows) bad why e = cc
+fault_behind_is : (rows : List (List Value)) (bad : Option MemberFault) (why : MemberFault) → fault_behind rows bad ≡ Some why → (rows ≡ []) × (bad ≡ Some why)
+fault_behind_is [] bad why e = (refl, e)
+fault_behind_is (row ∷ rows) bad why e = cc
 
 fault_is : {S M : Type 0} (source : Source S M) (w : Wrapped S) (failed : Bool) (why : MemberFault) → w.failed ≡ failed → IsWrapped source w → fault_of w ≡ Some why → SoundAs source w state.Failed (Some why)
 fault_is source w true why f is e given h =
@@ -104,27 +114,27 @@ fault_is source w true why f is e given h =
     let P : MemberFault → Type 0 = λ y. FailedByRead w.ahead.columns (source.taken w.source) (source.faults w.source) w.accepted y in
     inl (subst P read (failed_by_read w (source.taken w.source) (source.faults w.source) given f'.faults f'.unended f'.kept f'.nothing h.0 h.1))
 fault_is source w false why f is e given h =
-    let bad : (w.ahead.rows ≡ []) × (w.ahead.bad ≡ Some why) = faulted_is w.ahead.rows w.ahead.bad why (rw f at e) in
-    inr (failed_by_bytes w (source.taken w.source) (source.whole w.source) given why is.whole bad.0 bad.1 h.0 h.1)
+    let bad : (w.ahead.rows ≡ []) × (w.ahead.bad ≡ Some why) = fault_behind_is w.ahead.rows w.ahead.bad why (rw f at e) in
+    inr (failed_by_bytes w (source.taken w.source) (source.whole w.source) given why is.whole bad.0 bad.1 is.of_bytes h.0 h.1)
 
 pub sound_failed : {S M : Type 0} (source : Source S M) (w : Wrapped S) (why : MemberFault) → IsWrapped source w → fault_of w ≡ Some why → SoundAs source w state.Failed (Some why)
 sound_failed source w why is e = fault_is source w w.failed why refl is e
 
 -- the fault that is answered
-pub no_fault : (failed : Bool) (rows : List (List Value)) (bad : Option MemberFault) → failed ≡ false → rows ≡ [] → bad ≡ None → (if failed then Some fault.Read else faulted rows bad) ≡ None
+pub no_fault : (failed : Bool) (rows : List (List Value)) (bad : Option MemberFault) → failed ≡ false → rows ≡ [] → bad ≡ None → (if failed then Some fault.Read else fault_behind rows bad) ≡ None
 no_fault failed rows bad f r b = rw (f, r, b) refl
 
-pub bad_fault : (failed : Bool) (rows : List (List Value)) (bad : Option MemberFault) (why : MemberFault) → failed ≡ false → rows ≡ [] → bad ≡ Some why → (if failed then Some fault.Read else faulted rows bad) ≡ Some why
+pub bad_fault : (failed : Bool) (rows : List (List Value)) (bad : Option MemberFault) (why : MemberFault) → failed ≡ false → rows ≡ [] → bad ≡ Some why → (if failed then Some fault.Read else fault_behind rows bad) ≡ Some why
 bad_fault failed rows bad why f r b = rw (f, r, b) refl
 
-no_read : (failed : Bool) (rows : List (List Value)) (bad : Option MemberFault) → (bad ≡ Some fault.Read → ⊥) → (if failed then Some fault.Read else faulted rows bad) ≡ Some fault.Read → failed ≡ true
+no_read : (failed : Bool) (rows : List (List Value)) (bad : Option MemberFault) → (bad ≡ Some fault.Read → ⊥) → (if failed then Some fault.Read else fault_behind rows bad) ≡ Some fault.Read → failed ≡ true
 no_read true rows bad b e = refl
 no_read false [] bad b e = absurd (b e)
 no_read false (row ∷ rows) bad b e = absurd (let clash : None ≡ Some fault.Read = e in cc)
 
-none_bad : (failed : Bool) (rows : List (List Value)) (bad : Option MemberFault) → (if failed then Some fault.Read else faulted rows bad) ≡ None → (failed ≡ false) × (rows ≡ [] → bad ≡ None)
+none_bad : (failed : Bool) (rows : List (List Value)) (bad : Option MemberFault) → (if failed then Some fault.Read else fault_behind rows bad) ≡ None → (failed ≡ false) × (rows ≡ [] → bad ≡ None)
 none_bad true rows bad e = absurd (let clash : Some fault.Read ≡ None = e in cc)
-none_bad false rows bad e = (refl, λ r. sym (ap (λ (rs : List (List Value)). faulted rs bad) r) ∙ e)
+none_bad false rows bad e = (refl, λ r. sym (ap (λ (rs : List (List Value)). fault_behind rs bad) r) ∙ e)
 
 -- no fault was reached, so no pull failed
 pub unfailed : {S : Type 0} (w : Wrapped S) → fault_of w ≡ None → w.failed ≡ false
@@ -135,20 +145,20 @@ pub later_fault : {S M : Type 0} (source : Source S M) (old new : Wrapped S) (wh
 later_fault source old new why is same e = record {
   reached = e;
   counted = λ read none.
-      let failed : new.failed ≡ true = no_read new.failed new.ahead.rows new.ahead.bad is.of_bytes (e ∙ ap Some read) in
+      let failed : new.failed ≡ true = no_read new.failed new.ahead.rows new.ahead.bad (not_read new.ahead.bad is.of_bytes) (e ∙ ap Some read) in
       absurd (let clash : true ≡ false = sym failed ∙ same ∙ unfailed old none in cc);
   sound = sound_failed source new why is e;
 }
 
 accepted_taken : {S : Type 0} (w : Wrapped S) (taken whole : Option (List ℕ)) (given : List (List Value)) → (w.ahead.framed.ended ≡ true → IsWhole taken whole)
     → w.accepted ≡ length given → IfSome taken (λ bytes. Continues w bytes given)
-    → IfSome (option_map (λ bytes. take w.accepted (taken_reading w.ahead.columns whole bytes).rows) taken) (λ rows. rows ≡ given)
+    → IfSome (option_map (λ bytes. take w.accepted (taken_rows w.ahead.columns whole bytes)) taken) (λ rows. rows ≡ given)
 accepted_taken w None whole given all count h = tt
 accepted_taken w (Some bytes) whole given all count h =
     let e = is_all whole bytes in
     let r = now_read w bytes given e h (λ t. all_itself whole bytes (all t)) in
     let rows = (future w.ahead (w.kept ++ []) e).rows in
-    rw (r, count) (take-append_seam given rows)
+    ap (take w.accepted) (rows_is r) ∙ ap (λ (n : ℕ). take n (given ++ rows)) count ∙ take-append_seam given rows
 
 pub accepted_as : {S M : Type 0} (source : Source S M) (w : Wrapped S) → IsWrapped source w → AcceptedAs source w
 accepted_as source w is given h = accepted_taken w (source.taken w.source) (source.whole w.source) given is.whole h.0 h.1

@@ -1,4 +1,6 @@
 pub mod Ahead
+pub mod Pulls
+pub mod Readings
 pub mod Rows
 pub mod Sound
 pub use Rattle.med_prelude.specs.Texts

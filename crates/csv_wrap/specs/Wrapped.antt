@@ -8,12 +8,14 @@ use Rattle.med_base.specs.declared.outside.source.Source.{Ghosts as Source}
 use Rattle.med_base.specs.declared.outside.source.Pull.TheVariants as pull
 use Rattle.med_base.specs.Outside.{StaysTold, dry_after}
 use Rattle.med_prelude.specs.Counts.{Rose}
-use Rattle.med_prelude.specs.Texts.{IsWhole}
-use Rattle.tuple_core.specs.declared.value.Value.{Value}
-use Rattle.csv_frame.specs.Cuts.{GoesOn}
-use Rattle.csv_wrap.specs.Ahead.{Ahead, HoldsNothing, faulted, future}
-use Rattle.csv_wrap.specs.Rows.{before, reading}
-use Rattle.csv_wrap.specs.Sound.{IsSoundState, accepted_with}
+use Rattle.med_prelude.specs.Texts.{Bytes, IsWhole}
+use Rattle.tuple_core.specs.declared.columns.Column.{Column}
+use Rattle.tuple_core.specs.Values.{RowList}
+use Rattle.csv_frame.specs.Frames.{GoesOn}
+use Rattle.csv_frame.specs.Holding.{HoldsNone}
+use Rattle.csv_wrap.specs.Ahead.{Ahead, HoldsNothing, fault_behind, future}
+use Rattle.csv_wrap.specs.Readings.{before, source_reading}
+use Rattle.csv_wrap.specs.Sound.{IsOfBytes, IsSoundState, accepted_with}
 use Rattle.csv_wrap.specs.declared.wrapper.Came.{Came}
 use Rattle.csv_wrap.specs.declared.wrapper.Came.TheVariants as came
 use Rattle.csv_wrap.specs.declared.wrapper.Pulled.{Pulled}
@@ -26,33 +28,33 @@ pub record Wrapped (S : Type 0) : Type 0 where
   -- what was fed, and read ahead
   pub ahead : Ahead
   -- bytes that were pulled and not yet fed
-  pub kept : List ℕ
+  pub kept : Bytes
   -- whether a pull failed
   pub failed : Bool
   -- how many rows were given
   pub accepted : ℕ
 
 -- However the text goes on, its rows are those that were given and then those that are still to be given.
-abbrev pub Continues : {S : Type 0} → Wrapped S → List ℕ → List (List Value) → Type 0
-Continues w taken given = (more : List ℕ) (ended : Bool) → GoesOn w.ahead.framed.ended more ended
-    → reading w.ahead.columns (taken ++ more) ended ≡ before given (future w.ahead (w.kept ++ more) ended)
+abbrev pub Continues : {S : Type 0} → Wrapped S → Bytes → RowList → Type 0
+Continues w taken given = (more : Bytes) (ended : Bool) → GoesOn w.ahead.framed.ended more ended
+    → source_reading w.ahead.columns (taken ++ more) ended ≡ before given (future w.ahead (w.kept ++ more) ended)
 
 -- Of the bytes that were taken, where they are told, these rows were given.
-abbrev pub HasGiven : {S M : Type 0} → Source S M → Wrapped S → List (List Value) → Type 0
+abbrev pub HasGiven : {S M : Type 0} → Source S M → Wrapped S → RowList → Type 0
 HasGiven source w given = (w.accepted ≡ length given) × IfSome (source.taken w.source) (λ taken. Continues w taken given)
 
 -- the fault that is answered: that of a pull that failed, or that of a bad frame before which no row is left
 abbrev pub fault_of : {S : Type 0} → Wrapped S → Option MemberFault
-fault_of w = if w.failed then Some fault.Read else faulted w.ahead.rows w.ahead.bad
+fault_of w = if w.failed then Some fault.Read else fault_behind w.ahead.rows w.ahead.bad
 
 -- a member in this state that accepted what was given is sound
 abbrev pub SoundAs : {S M : Type 0} → Source S M → Wrapped S → MemberState → Option MemberFault → Type 0
-SoundAs source w state why = (given : List (List Value)) → HasGiven source w given
+SoundAs source w state why = (given : RowList) → HasGiven source w given
     → IsSoundState w.ahead.columns (source.taken w.source) (source.whole w.source) (source.faults w.source) w.accepted state why
 
 -- the rows of a member that accepted as many as were given are those that were given
 abbrev pub AcceptedAs : {S M : Type 0} → Source S M → Wrapped S → Type 0
-AcceptedAs source w = (given : List (List Value)) → HasGiven source w given
+AcceptedAs source w = (given : RowList) → HasGiven source w given
     → IfSome (accepted_with source w.ahead.columns w.accepted (Some w.source)) (λ rows. rows ≡ given)
 
 -- no call changes these
@@ -97,7 +99,7 @@ IsLast pulled.NoMemory = ⊤
 
 -- what came at the end that a source told
 abbrev pub IsEnd : {S : Type 0} → Wrapped S → Pulled → Type 0
-IsEnd w pulled.Moved = (w.ahead.framed.ended ≡ true) × (HoldsNothing w.ahead → ⊥) × (fault_of w ≡ None)
+IsEnd w pulled.Moved = (w.ahead.framed.ended ≡ true) × (HoldsNothing w.ahead → ⊥) × (fault_of w ≡ None) × (HoldsNone w.ahead.framed → ⊥)
 IsEnd w pulled.Ended = (w.ahead.framed.ended ≡ true) × HoldsNothing w.ahead × (fault_of w ≡ None) × (0 < w.ahead.number)
 IsEnd w (pulled.Failed why) = (fault_of w ≡ Some why) × (w.failed ≡ false)
 IsEnd w pulled.NotYet = ⊥
@@ -112,7 +114,7 @@ CameAs source old new came.NotYet = Rose (source.waits old.source) (source.waits
 CameAs source old new came.Failed = Rose (source.faults old.source) (source.faults new.source) × (new ≡ record old { source = new.source; failed = true })
 
 -- the row that was given
-abbrev pub row_of : NextRow → List (List Value)
+abbrev pub row_of : NextRow → RowList
 row_of (next.Row row) = row ∷ []
 row_of next.Nothing = []
 row_of (next.Failed why) = []
@@ -123,6 +125,13 @@ IsNext source old new (next.Row row) = (new.accepted ≤ 2 ^ 62) × (HoldsNothin
 IsNext source old new next.Nothing = HoldsNothing new.ahead × (fault_of new ≡ None)
 IsNext source old new (next.Failed why) = IsFault source old new why
 IsNext source old new next.NoMemory = ⊤
+
+-- a row that is given has as many values as there are columns
+abbrev pub FillsColumns : List Column → NextRow → Type 0
+FillsColumns columns (next.Row row) = length row ≡ length columns
+FillsColumns columns next.Nothing = ⊤
+FillsColumns columns (next.Failed why) = ⊤
+FillsColumns columns next.NoMemory = ⊤
 
 -- a fault that was answered is answered again, and nothing changes
 abbrev pub StaysPulled : {S : Type 0} → Wrapped S → Wrapped S → Pulled → Type 0
@@ -149,4 +158,4 @@ pub record IsWrapped {S M : Type 0} (source : Source S M) (w : Wrapped S) : Type
   pub fed : w.ahead.framed.ended ≡ true → w.kept ≡ []
   pub whole : w.ahead.framed.ended ≡ true → IsAllTaken source w.source
   pub failed : w.failed ≡ true → IsFailedPull source w
-  pub of_bytes : w.ahead.bad ≡ Some fault.Read → ⊥
+  pub of_bytes : IfSome w.ahead.bad IsOfBytes

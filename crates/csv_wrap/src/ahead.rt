@@ -1,8 +1,8 @@
 //! Rows that are read ahead of those that are given.
 
-ghost use Rattle.std.specs.Prelude.{◌≡◌, ◌+◌, ◌<◌, ◌≤◌, ◌^◌, ◌++◌, [], false, true, length, take, drop, None, OnOk, OnErr, IfNone, option_to_list};
+ghost use Rattle.std.specs.Prelude.{◌≡◌, ◌+◌, ◌<◌, ◌≤◌, ◌^◌, ◌++◌, [], false, true, length, take, drop, None, OnOk, OnErr, IfNone, IfSome, option_to_list};
 ghost use Rattle.csv_frame.specs.Holding.{HoldsNone, IsAtHand};
-ghost use Rattle.csv_wrap.specs.Ahead.{Ahead, EndsAt, IsReadAhead, faulted, IsRunAhead, KeepsFuture};
+ghost use Rattle.csv_wrap.specs.Ahead.{Ahead, EndsAt, FillColumns, IsReadAhead, IsRunAhead, KeepsFuture, fault_behind};
 
 use crate::frame_rows::read_frame;
 use crate::run_rows::{put, read_run};
@@ -26,13 +26,13 @@ pub struct ReadAhead {
 
 impl Model for ReadAhead {
     ghost use Rattle.std.specs.Prelude.{◌+◌, ◌≤◌, ◌^◌, length};
-    ghost use Rattle.csv_wrap.specs.Ahead.{Ahead};
+    ghost use Rattle.csv_wrap.specs.Ahead.{Ahead, FillColumns};
 
     ghost Value = { Ahead };
 
     ghost view = { λ a. record { columns = a.columns; rows = a.rows.items; bad = a.bad; number = a.number; framed = a.framer } };
 
-    ghost invariant = { λ a. (length a.columns ≤ 64) × (a.number ≤ a.framer.at) × (a.framer.at + length a.framer.rest ≤ 2 ^ 62) };
+    ghost invariant = { λ a. FillColumns a.columns a.rows.items × (length a.columns ≤ 64) × (a.number ≤ a.framer.at) × (a.framer.at + length a.framer.rest ≤ 2 ^ 62) };
 }
 
 /// What is left of a source that has told its end.
@@ -159,6 +159,7 @@ impl ReadAhead {
         ensures rows { self.old.rows ≡ option_to_list result ++ self.new.rows }
         ensures others { self.new ≡ record self.old { rows = self.new.rows } }
         ensures none { IfNone result (self.new.rows ≡ []) }
+        ensures wide { IfSome result (λ row. length row ≡ length self.old.columns) }
         ensures few { self.new.number ≤ 2 ^ 62 }
     {
         self.rows.pop_front()
@@ -166,7 +167,7 @@ impl ReadAhead {
 
     /// The fault that was reached, once no row is left before it.
     pub fn fault(&self) -> Option<MemberFault>
-        ensures { result ≡ faulted self.now.rows self.now.bad }
+        ensures { result ≡ fault_behind self.now.rows self.now.bad }
     {
         if self.rows.is_empty() { self.bad } else { None }
     }

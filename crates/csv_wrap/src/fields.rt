@@ -8,14 +8,14 @@ ghost use Rattle.med_prelude.specs.Reading.{Gives};
 use csv::ByteRecord;
 use med_prelude::ReadFault;
 use std::alloc::Global;
-use tuple_core::{Column, Row, parse_value};
+use tuple_core::{Column, Row, field_value};
 
-/// The field at a place that is there.
-fn field_at(fields: &ByteRecord, place: usize) -> &[u8]
-    requires { place < length (fields_of fields.now) }
-    ensures { drop place (fields_of fields.now) ≡ result.now ∷ drop (place + 1) (fields_of fields.now) }
+/// The field at a position that is there.
+fn field_at(fields: &ByteRecord, position: usize) -> &[u8]
+    requires { position < length (fields_of fields.now) }
+    ensures { drop position (fields_of fields.now) ≡ result.now ∷ drop (position + 1) (fields_of fields.now) }
 {
-    match fields.get(place) {
+    match fields.get(position) {
         Some(field) => field,
         None => unreachable!(),
     }
@@ -26,12 +26,12 @@ pub fn named_count(columns: &[Column], fields: &ByteRecord) -> usize
     ensures count { result ≡ named_count columns.now (fields_of fields.now) }
     ensures within { result ≤ length columns.now }
 {
-    for (place, column) in columns.iter().enumerate() {
-        if place >= fields.len() {
-            return place;
+    for (position, column) in columns.iter().enumerate() {
+        if position >= fields.len() {
+            return position;
         }
-        if column.name.as_bytes() != field_at(fields, place) {
-            return place;
+        if column.name.as_bytes() != field_at(fields, position) {
+            return position;
         }
     }
     columns.len()
@@ -44,14 +44,11 @@ pub fn row_of(alloc: Global, columns: &[Column], fields: &ByteRecord) -> Result<
     requires short { length columns.now ≤ 64 }
     ensures { Gives result (values_of columns.now (fields_of fields.now)) }
 {
-    let mut values = Vec::with_capacity(alloc, columns.len()).map_err(|_| ReadFault::NoMemory)?;
-    for (place, column) in columns.iter().enumerate() {
-        let value = parse_value(alloc, column.kind, field_at(fields, place)).map_err(
-            |_| ReadFault::NoMemory,
-        )?;
-        match value {
-            Some(value) => values.push(value).map_err(|_| ReadFault::NoMemory)?,
-            None => return Err(ReadFault::Broken(place as u32)),
+    let mut values = Vec::with_capacity(alloc, columns.len())?;
+    for (position, column) in columns.iter().enumerate() {
+        match field_value(alloc, column, field_at(fields, position))? {
+            Some(value) => values.push(value)?,
+            None => return Err(ReadFault::Broken(position as u32)),
         }
     }
     Ok(Row::new(values))

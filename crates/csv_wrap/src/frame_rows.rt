@@ -1,9 +1,9 @@
 //! What one frame gives: the header, a row, or a fault.
 
-ghost use Rattle.std.specs.Prelude.{◌≡◌, ◌≤◌, List, length, Some, None, IfOk};
+ghost use Rattle.std.specs.Prelude.{◌≡◌, ◌<◌, ◌≤◌, List, length, Some, None, IfOk};
 ghost use Rattle.csv.specs.Records.{fields_of};
 ghost use Rattle.tuple_core.specs.declared.columns.Column.{Column};
-ghost use Rattle.csv_wrap.specs.Rows.{Reading, fields_then, frame_then, header_then, record_then, read_then};
+ghost use Rattle.csv_wrap.specs.Rows.{frame_read, record_read};
 
 use crate::fields::{named_count, row_of};
 use csv::ByteRecord;
@@ -23,7 +23,7 @@ pub enum FrameRead {
 
 fn read_header(columns: &[Column], fields: &ByteRecord) -> FrameRead
     requires { length columns.now ≤ 64 }
-    ensures { (more : Reading) → header_then columns.now (Some (fields_of fields.now)) more ≡ read_then result more }
+    ensures { result ≡ record_read columns.now 0 (Some (fields_of fields.now)) }
 {
     let found = named_count(columns, fields);
     if found == columns.len() && fields.len() == columns.len() {
@@ -41,8 +41,9 @@ fn read_row(
     number: u64,
     fields: &ByteRecord,
 ) -> Result<FrameRead, AllocError>
-    requires { length columns.now ≤ 64 }
-    ensures { IfOk result (λ read. (more : Reading) → record_then number columns.now (Some (fields_of fields.now)) more ≡ read_then read more) }
+    requires short { length columns.now ≤ 64 }
+    requires later { 0 < number }
+    ensures { IfOk result (λ read. read ≡ record_read columns.now number (Some (fields_of fields.now))) }
 {
     if fields.len() != columns.len() {
         return Ok(FrameRead::Bad(MemberFault::BadRecord { k: number }));
@@ -65,7 +66,7 @@ pub fn read_record(
     fields: &ByteRecord,
 ) -> Result<FrameRead, AllocError>
     requires { length columns.now ≤ 64 }
-    ensures { IfOk result (λ read. (more : Reading) → fields_then number columns.now (Some (fields_of fields.now)) more ≡ read_then read more) }
+    ensures { IfOk result (λ read. read ≡ record_read columns.now number (Some (fields_of fields.now))) }
 {
     if number == 0 {
         Ok(read_header(columns, fields))
@@ -75,7 +76,7 @@ pub fn read_record(
 }
 
 fn no_record(number: u64) -> FrameRead
-    ensures { (columns : List Column) (more : Reading) → fields_then number columns None more ≡ read_then result more }
+    ensures { (columns : List Column) → result ≡ record_read columns number None }
 {
     if number == 0 {
         FrameRead::Bad(MemberFault::Header { found: 0 })
@@ -92,7 +93,7 @@ pub fn read_frame(
     frame: &[u8],
 ) -> Result<FrameRead, AllocError>
     requires { length columns.now ≤ 64 }
-    ensures { IfOk result (λ read. (more : Reading) → frame_then number columns.now frame.now more ≡ read_then read more) }
+    ensures { IfOk result (λ read. read ≡ frame_read columns.now number (Some frame.now)) }
 {
     match record_of(alloc, frame)? {
         Some(record) => read_record(alloc, columns, number, &record),

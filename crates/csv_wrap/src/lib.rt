@@ -2,7 +2,6 @@
 #![tactic(auto)]
 
 mod ahead;
-mod copying;
 mod fields;
 mod frame_rows;
 mod members;
@@ -10,7 +9,6 @@ mod reading;
 mod run_rows;
 mod wrapper;
 
-pub use copying::copy_columns;
 pub use members::{MemberEnd, Members};
 pub use reading::{SourceRows, read_rows};
 pub use wrapper::{NextRow, Pulled, Wrapper};

@@ -1,7 +1,7 @@
 //! The rows of a source's bytes, up to the first bad frame.
 
 ghost use Rattle.std.specs.Prelude.{◌≡◌, ◌≤◌, length, Some, IfOk};
-ghost use Rattle.csv_wrap.specs.Rows.{reading, reading_of};
+ghost use Rattle.csv_wrap.specs.Readings.{source_reading, whole_reading};
 
 use crate::frame_rows::{FrameRead, read_frame};
 use csv_frame::{FirstFrame, first_frame};
@@ -25,7 +25,7 @@ pub fn read_rows(
     ended: bool,
 ) -> Result<SourceRows, AllocError>
     requires { length columns.now ≤ 64 }
-    ensures { IfOk result (λ read. reading_of read ≡ reading columns.now bytes.now ended) }
+    ensures { IfOk result (λ read. whole_reading read ≡ source_reading columns.now bytes.now ended) }
 {
     let columns = columns.as_slice();
     let mut rows = Vec::new(alloc);
@@ -57,7 +57,7 @@ pub fn read_rows(
 }
 
 fn bad(rows: Vec<Row>, fault: MemberFault) -> SourceRows
-    ensures { reading_of result ≡ record { rows = rows.items; verdict = Some fault } }
+    ensures { whole_reading result ≡ record { rows = rows.items; verdict = Some fault } }
 {
     SourceRows {
         rows,

@@ -4,7 +4,7 @@ ghost use Rattle.std.specs.Prelude.{◌≡◌, ◌+◌, ◌<◌, ◌≤◌, ◌^
 ghost use Rattle.csv_frame.specs.Frames.{frames};
 ghost use Rattle.csv_runs.specs.Runs.{is_run};
 ghost use Rattle.csv_wrap.specs.Ahead.{ReadsFrames, unless_bad};
-ghost use Rattle.csv_wrap.specs.Rows.{Reading, before, read_then};
+ghost use Rattle.csv_wrap.specs.Readings.{Reading, before, read_then};
 
 use crate::frame_rows::{FrameRead, read_record};
 use csv::ByteRecord;

@@ -1,14 +1,14 @@
 //! The rows of a source, as its bytes come.
 
-ghost use Rattle.std.specs.Prelude.{◌≡◌, ◌+◌, ◌<◌, ◌≤◌, ◌^◌, ◌++◌, List, [], length, false, true, take, Some, None, IfOk, IfSome, IfNone, OnOk, OnErr, option_to_list};
+ghost use Rattle.std.specs.Prelude.{◌≡◌, ◌+◌, ◌<◌, ◌≤◌, ◌^◌, ◌++◌, [], length, false, true, take, Some, None, IfOk, IfSome, IfNone, OnOk, OnErr, option_to_list};
 ghost use Rattle.med_base.specs.declared.member.MemberState.TheVariants as state;
-ghost use Rattle.tuple_core.specs.declared.value.Value.{Value};
+ghost use Rattle.tuple_core.specs.Values.{RowList};
 ghost use Rattle.csv_frame.specs.Holding.{HoldsNone};
 ghost use Rattle.csv_wrap.specs.Ahead.{HoldsNothing, IsReadAhead, KeepsFuture};
-ghost use Rattle.csv_wrap.specs.Wrapped.{CameAs, HasGiven, IsEnd, IsLast, IsNext, IsPulled, IsWrapped, MayPull, SameSource, SoundAs, StaysNext, StaysPulled, Wrapped, fault_of, row_of};
+ghost use Rattle.csv_wrap.specs.Pulls.{AsksSource, ComesOfOnePull, CountsWaits, IsSomePull, LeavesSource, MovesBy};
+ghost use Rattle.csv_wrap.specs.Wrapped.{AcceptedAs, CameAs, FillsColumns, HasGiven, IsEnd, IsLast, IsNext, IsPulled, IsWrapped, MayPull, SameSource, SoundAs, StaysNext, StaysPulled, Wrapped, fault_of, row_of};
 
 use crate::ahead::{AtEnd, ReadAhead};
-use crate::copying::copy_columns;
 use med_base::{MemberFault, Pull, Source};
 use std::alloc::{AllocError, Global};
 use std::marker::Model;
@@ -82,7 +82,7 @@ impl<S: Source> Wrapper<S> {
         ensures nothing { IfOk result (λ w. HoldsNothing w.ahead × (fault_of w ≡ None) × (w.kept ≡ [])) }
         ensures gave { IfOk result (λ w. HasGiven S.Source w []) }
     {
-        let columns = copy_columns(alloc, columns)?;
+        let columns = columns.clone()?;
         let room = vec![in alloc; 0u8; PULLED_MOST]?;
         Ok(Wrapper {
             source,
@@ -100,8 +100,17 @@ impl<S: Source> Wrapper<S> {
         requires { MayPull self.old }
         ensures source { SameSource S.Source self.old.source self.new.source }
         ensures columns { self.new.ahead.columns ≡ self.old.ahead.columns }
-        ensures gave { (given : List (List Value)) → HasGiven S.Source self.old given → HasGiven S.Source self.new given }
+        ensures gave { (given : RowList) → HasGiven S.Source self.old given → HasGiven S.Source self.new given }
         ensures answer { IsPulled S.Source self.old self.new result }
+
+        // One pull of the source, or none.
+        ensures one_pull { AsksSource self.old → IsSomePull S.Source self.old.source self.new.source }
+        ensures no_pull { LeavesSource self.old → self.new.source ≡ self.old.source }
+        ensures waits { CountsWaits S.Source self.old.source self.new.source result }
+        ensures moved { MovesBy S.Source self.old self.new result }
+
+        ensures given { self.new.accepted ≡ self.old.accepted }
+        ensures accepted { AcceptedAs S.Source self.new }
         ensures stays { StaysPulled self.old self.new result }
         ensures last { self.old.ahead.framed.ended ≡ true → IsLast result }
         ensures sound { SoundAs S.Source self.new state.Active None }
@@ -130,8 +139,11 @@ impl<S: Source> Wrapper<S> {
     pub fn next_row(&mut self, alloc: Global) -> NextRow
         ensures source { self.new.source ≡ self.old.source }
         ensures columns { self.new.ahead.columns ≡ self.old.ahead.columns }
-        ensures gave { (given : List (List Value)) → HasGiven S.Source self.old given → HasGiven S.Source self.new (given ++ row_of result) }
+        ensures gave { (given : RowList) → HasGiven S.Source self.old given → HasGiven S.Source self.new (given ++ row_of result) }
         ensures answer { IsNext S.Source self.old self.new result }
+        ensures wide { FillsColumns self.old.ahead.columns result }
+        ensures given { self.new.accepted ≡ self.old.accepted + length (row_of result) }
+        ensures accepted { AcceptedAs S.Source self.new }
         ensures kept { self.new.kept ≡ self.old.kept }
         ensures ended { self.new.ahead.framed.ended ≡ self.old.ahead.framed.ended }
         ensures stays { StaysNext self.old self.new result }
@@ -180,7 +192,7 @@ impl<S: Source> Wrapper<S> {
         requires { self.old.failed ≡ false }
         ensures same { self.new ≡ record self.old { ahead = self.new.ahead } }
         ensures columns { self.new.ahead.columns ≡ self.old.ahead.columns }
-        ensures gave { (given : List (List Value)) → HasGiven S.Source self.old given → HasGiven S.Source self.new given }
+        ensures gave { (given : RowList) → HasGiven S.Source self.old given → HasGiven S.Source self.new given }
         ensures keeps { KeepsFuture self.old.ahead self.new.ahead }
         ensures read { OnOk result (IsReadAhead self.new.ahead) }
         ensures wrapped { IsWrapped S.Source self.new }
@@ -191,10 +203,12 @@ impl<S: Source> Wrapper<S> {
     fn give(&mut self) -> Option<Row>
         requires { self.old.failed ≡ false }
         ensures same { self.new ≡ record self.old { ahead = record self.old.ahead { rows = self.new.ahead.rows }; accepted = self.new.accepted } }
-        ensures gave { (given : List (List Value)) → HasGiven S.Source self.old given → HasGiven S.Source self.new (given ++ option_to_list result) }
+        ensures gave { (given : RowList) → HasGiven S.Source self.old given → HasGiven S.Source self.new (given ++ option_to_list result) }
         ensures rows { self.old.ahead.rows ≡ option_to_list result ++ self.new.ahead.rows }
         ensures none { IfNone result (self.new.ahead.rows ≡ []) }
+        ensures wide { IfSome result (λ row. length row ≡ length self.old.ahead.columns) }
         ensures few { self.new.accepted ≤ 2 ^ 62 }
+        ensures given { self.new.accepted ≡ self.old.accepted + length (option_to_list result) }
         ensures wrapped { IsWrapped S.Source self.new }
     {
         let row = self.ahead.pop()?;
@@ -208,8 +222,9 @@ impl<S: Source> Wrapper<S> {
         requires kept { self.old.kept ≡ [] }
         requires nothing { HoldsNothing self.old.ahead }
         ensures source { SameSource S.Source self.old.source self.new.source }
-        ensures gave { (given : List (List Value)) → HasGiven S.Source self.old given → HasGiven S.Source self.new given }
+        ensures gave { (given : RowList) → HasGiven S.Source self.old given → HasGiven S.Source self.new given }
         ensures came { CameAs S.Source self.old self.new result }
+        ensures pulled { ComesOfOnePull S.Source self.old.source self.new.source self.new.kept result }
         ensures wrapped { IsWrapped S.Source self.new }
     {
         match self.source.pull(self.room.as_mut_slice()) {
@@ -239,8 +254,9 @@ impl<S: Source> Wrapper<S> {
         requires nothing { HoldsNothing self.old.ahead }
         ensures same { self.new ≡ record self.old { ahead = record self.old.ahead { framed = self.new.ahead.framed }; kept = self.new.kept } }
         ensures unended { self.new.ahead.framed.ended ≡ false }
-        ensures gave { (given : List (List Value)) → HasGiven S.Source self.old given → HasGiven S.Source self.new given }
+        ensures gave { (given : RowList) → HasGiven S.Source self.old given → HasGiven S.Source self.new given }
         ensures fed { OnOk result (self.new.kept ≡ []) }
+        ensures rest { OnOk result (self.new.ahead.framed.rest ≡ self.old.ahead.framed.rest ++ self.old.kept) }
         ensures stays { OnErr result (HoldsNothing self.new.ahead) }
         ensures wrapped { IsWrapped S.Source self.new }
     {
@@ -256,7 +272,7 @@ impl<S: Source> Wrapper<S> {
         requires good { self.old.ahead.bad ≡ None }
         ensures same { self.new ≡ record self.old { ahead = self.new.ahead } }
         ensures columns { self.new.ahead.columns ≡ self.old.ahead.columns }
-        ensures gave { (given : List (List Value)) → HasGiven S.Source self.old given → HasGiven S.Source self.new given }
+        ensures gave { (given : RowList) → HasGiven S.Source self.old given → HasGiven S.Source self.new given }
         ensures end { IsEnd self.new result }
         ensures last { HoldsNone self.old.ahead.framed → IsLast result }
         ensures wrapped { IsWrapped S.Source self.new }

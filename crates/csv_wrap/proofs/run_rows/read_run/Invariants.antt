@@ -1,6 +1,6 @@
 use Rattle.std.proofs.Common.{◌≡◌, ◌+◌, ◌≤◌, ℕ, Bool, true, List, Option, ◌++◌, length, take}
 use Rattle.csv_frame.specs.Frames.{frames}
-use Rattle.csv_wrap.specs.Rows.{before, read_frames}
+use Rattle.csv_wrap.specs.Readings.{before, read_frames}
 use Rattle.csv_wrap.proofs.run_rows.read_run.Given as goal
 
 -- the rows so far stand before those of the frames that are left

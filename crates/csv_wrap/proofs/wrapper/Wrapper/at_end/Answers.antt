@@ -8,7 +8,7 @@ returns-in-Held-clause-end g c =
     let told = c.at_end.ensures.keeps.ended ∙ ap (λ (w : Wrapped g.row.S.Denot). w.ahead.framed.ended) c.self.view_is ∙ c.requires.told in
     let failed = ap (λ (w : Wrapped g.row.S.Denot). w.failed) c.self.view_is ∙ c.requires.failed in
     let end = c.in-Held.ensures.end in
-    (told, end.2, no_fault _ _ _ failed end.0 end.1)
+    (told, end.2, no_fault _ _ _ failed end.0 end.1, end.3)
 
 pub returns-in-Clean-clause-end : goal.returns-in-Clean-clause-end
 returns-in-Clean-clause-end g c =

@@ -3,6 +3,7 @@ use Rattle.std.proofs.lemmas.Grind.{common_steps}
 use Rattle.med_base.specs.declared.member.MemberFault.TheVariants as fault
 use Rattle.csv_wrap.specs.Ahead.{Ahead}
 use Rattle.csv_wrap.specs.Wrapped.{Wrapped}
+use Rattle.csv_wrap.proofs.AheadLaws.{frames_none}
 use Rattle.csv_wrap.proofs.WrapLaws.{none_given}
 use Rattle.csv_wrap.proofs.wrapper.Wrapper.new.Goals as goal
 
@@ -17,7 +18,7 @@ invariant_of-result g c =
         fed = λ t. refl;
         whole = λ t. absurd (let clash : false ≡ true = sym open_still ∙ t in cc);
         failed = λ t. absurd (let clash : false ≡ true = t in cc);
-        of_bytes = λ t. let clash : None ≡ Some fault.Read = sym (ap (λ (a : Ahead). a.bad) c.new.ensures) ∙ t in cc;
+        of_bytes = rw c.new.ensures tt;
       },
     )
 
@@ -25,3 +26,6 @@ pub returns-clause-gave : goal.returns-clause-gave
 returns-clause-gave g c =
     let w : Wrapped g.row.S.Denot = record { source = c.args.source; ahead = c.new.result; kept = []; failed = false; accepted = 0 } in
     (refl, none_given w c.in_ok-columns.columns (g.S.Source.taken c.args.source) c.requires.fresh c.new.ensures refl)
+
+pub returns-clause-nothing : goal.returns-clause-nothing
+returns-clause-nothing g c = (rw c.new.ensures (record { rows = refl; bad = refl; frames = frames_none false }), rw c.new.ensures refl, refl)

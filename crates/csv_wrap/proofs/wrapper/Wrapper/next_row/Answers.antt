@@ -1,7 +1,7 @@
 use Rattle.std.proofs.Common.{sym, ap, ◌∙◌, refl}
 use Rattle.csv_wrap.specs.Wrapped.{Wrapped}
 use Rattle.csv_wrap.proofs.AheadLaws.{none_read}
-use Rattle.csv_wrap.proofs.WrapLaws.{later_fault, sound_active}
+use Rattle.csv_wrap.proofs.WrapLaws.{accepted_as, later_fault, sound_active}
 use Rattle.csv_wrap.proofs.wrapper.Wrapper.next_row.Goals as goal
 
 pub returns-in-Some-clause-answer : goal.returns-in-Some-clause-answer
@@ -30,3 +30,18 @@ returns-in-None-clause-sound g c = sound_active g.S.Source c.give.new.self c.giv
 pub returns-in-Some-give-clause-answer : goal.returns-in-Some-give-clause-answer
 returns-in-Some-give-clause-answer g c =
     (c.give.ensures.few, λ h. let rows = sym (none_read c.args.self.now.ahead c.fill.new.self.ahead c.fill.ensures.keeps h) ∙ c.in-Some-give.ensures.rows in cc)
+
+pub returns-in-Some-clause-accepted : goal.returns-in-Some-clause-accepted
+returns-in-Some-clause-accepted g c = accepted_as g.S.Source c.args.self.now c.fault.ensures.wrapped
+
+pub returns-in-Err-clause-accepted : goal.returns-in-Err-clause-accepted
+returns-in-Err-clause-accepted g c = accepted_as g.S.Source c.fill.new.self c.fill.ensures.wrapped
+
+pub returns-in-Some-give-clause-accepted : goal.returns-in-Some-give-clause-accepted
+returns-in-Some-give-clause-accepted g c = accepted_as g.S.Source c.give.new.self c.give.ensures.wrapped
+
+pub returns-in-Some-fault-clause-accepted : goal.returns-in-Some-fault-clause-accepted
+returns-in-Some-fault-clause-accepted g c = accepted_as g.S.Source c.give.new.self c.give.ensures.wrapped
+
+pub returns-in-None-clause-accepted : goal.returns-in-None-clause-accepted
+returns-in-None-clause-accepted g c = accepted_as g.S.Source c.give.new.self c.give.ensures.wrapped

@@ -1,6 +1,6 @@
 use Rattle.std.proofs.Common.{sym, ap, ◌∙◌, refl}
 use Rattle.csv_wrap.specs.Wrapped.{Wrapped}
-use Rattle.csv_wrap.proofs.WrapLaws.{end_pulled, later_fault, read_fault, sound_active, unfailed}
+use Rattle.csv_wrap.proofs.WrapLaws.{accepted_as, end_pulled, later_fault, read_fault, sound_active, unfailed}
 use Rattle.csv_wrap.proofs.wrapper.Wrapper.pull_rows.Goals as goal
 
 pub returns-in-Some-clause-answer : goal.returns-in-Some-clause-answer
@@ -41,3 +41,24 @@ pub returns-in-End-clause-answer : goal.returns-in-End-clause-answer
 returns-in-End-clause-answer g c =
     let unfaulted = unfailed c.args.self.now (sym c.fault.ensures.fault ∙ c.in_default.is) in
     end_pulled g.S.Source c.args.self.now c.at_end-in-End.new.self c.at_end-in-End.result c.at_end-in-End.ensures.wrapped unfaulted c.at_end-in-End.ensures.end
+
+pub returns-in-Some-clause-accepted : goal.returns-in-Some-clause-accepted
+returns-in-Some-clause-accepted g c = accepted_as g.S.Source c.args.self.now c.fault.ensures.wrapped
+
+pub returns-then-is_finished-clause-accepted : goal.returns-then-is_finished-clause-accepted
+returns-then-is_finished-clause-accepted g c = accepted_as g.S.Source c.at_end.new.self c.at_end.ensures.wrapped
+
+pub returns-in-NotYet-clause-accepted : goal.returns-in-NotYet-clause-accepted
+returns-in-NotYet-clause-accepted g c = accepted_as g.S.Source c.take_piece.new.self c.take_piece.ensures.wrapped
+
+pub returns-in-Failed-clause-accepted : goal.returns-in-Failed-clause-accepted
+returns-in-Failed-clause-accepted g c = accepted_as g.S.Source c.take_piece.new.self c.take_piece.ensures.wrapped
+
+pub returns-in-End-clause-accepted : goal.returns-in-End-clause-accepted
+returns-in-End-clause-accepted g c = accepted_as g.S.Source c.at_end-in-End.new.self c.at_end-in-End.ensures.wrapped
+
+pub returns-in-Ok-clause-accepted : goal.returns-in-Ok-clause-accepted
+returns-in-Ok-clause-accepted g c = accepted_as g.S.Source c.feed_kept.new.self c.feed_kept.ensures.wrapped
+
+pub returns-in-Err-clause-accepted : goal.returns-in-Err-clause-accepted
+returns-in-Err-clause-accepted g c = accepted_as g.S.Source c.feed_kept.new.self c.feed_kept.ensures.wrapped
