@@ -171,24 +171,25 @@ fn gives_numbers(
 }
 
 #[test]
-fn two_rows_without_the_last_line_feed(rt: HostRuntime) -> Result<(), Fail> {
-    let rows: [&[u8]; 2] = [b"paris", b"oslo"];
-    assert!(rt; gives_texts(rt.alloc(), b"x\nparis\noslo", &rows, None)?);
-    assert!(rt;
-        gives_texts(
-            rt.alloc(),
-            b"\n\xEF\xBB\xBFx\r\n\r\nparis\n\noslo\r\n",
-            &rows,
-            None
-        )?
-    );
-    Ok(())
-}
-
-#[test]
-fn doubled_quotes_and_a_line_feed_in_quotes(rt: HostRuntime) -> Result<(), Fail> {
-    let rows: [&[u8]; 1] = [b"a \"b\"\nc"];
-    assert!(rt; gives_texts(rt.alloc(), b"x\r\n\"a \"\"b\"\"\nc\"\r\n", &rows, None)?);
+fn rows_and_faults_of_texts_in_pieces(rt: HostRuntime) -> Result<(), Fail> {
+    let alloc = rt.alloc();
+    let texts: [(&[u8], &[&[u8]], Option<MemberFault>); 8] = [
+        (b"x\nparis\noslo", &[b"paris", b"oslo"], None),
+        (b"\n\xEF\xBB\xBFx\r\n\r\nparis\n\noslo\r\n", &[b"paris", b"oslo"], None),
+        (b"x\r\n\"a \"\"b\"\"\nc\"\r\n", &[b"a \"b\"\nc"], None),
+        (
+            b"x\na\n\xEF\xBB\xBF\xEF\xBB\xBFb\nc\n\xEF\xBB\xBF\n\"d\"\n",
+            &[b"a", b"b", b"c", b"d"],
+            None,
+        ),
+        (b"x\n\"pari", &[], Some(MemberFault::BadRecord { k: 1 })),
+        (b"", &[], Some(MemberFault::Header { found: 0 })),
+        (b"y\nparis\n", &[], Some(MemberFault::Header { found: 0 })),
+        (b"x,y\nparis\n", &[], Some(MemberFault::Header { found: 1 })),
+    ];
+    for (index, text) in texts.iter().enumerate() {
+        assert!(rt; gives_texts(alloc, text.0, text.1, text.2)?, "at {index}");
+    }
     Ok(())
 }
 
@@ -200,31 +201,6 @@ fn greatest_and_least_integers(rt: HostRuntime) -> Result<(), Fail> {
     assert!(rt; gives_numbers(alloc, past, &[i64::MIN], fault)?);
     let before = b"x\n9223372036854775807\n-9223372036854775809\n";
     assert!(rt; gives_numbers(alloc, before, &[i64::MAX], fault)?);
-    Ok(())
-}
-
-#[test]
-fn a_text_that_is_cut_in_quotes(rt: HostRuntime) -> Result<(), Fail> {
-    let fault = Some(MemberFault::BadRecord { k: 1 });
-    assert!(rt; gives_texts(rt.alloc(), b"x\n\"pari", &[], fault)?);
-    Ok(())
-}
-
-#[test]
-fn a_text_without_its_header(rt: HostRuntime) -> Result<(), Fail> {
-    let fault = Some(MemberFault::Header { found: 0 });
-    assert!(rt; gives_texts(rt.alloc(), b"", &[], fault)?);
-    assert!(rt; gives_texts(rt.alloc(), b"y\nparis\n", &[], fault)?);
-    let longer = Some(MemberFault::Header { found: 1 });
-    assert!(rt; gives_texts(rt.alloc(), b"x,y\nparis\n", &[], longer)?);
-    Ok(())
-}
-
-#[test]
-fn a_mark_between_frames_that_are_read_together(rt: HostRuntime) -> Result<(), Fail> {
-    let rows: [&[u8]; 4] = [b"a", b"b", b"c", b"d"];
-    let text = b"x\na\n\xEF\xBB\xBF\xEF\xBB\xBFb\nc\n\xEF\xBB\xBF\n\"d\"\n";
-    assert!(rt; gives_texts(rt.alloc(), text, &rows, None)?);
     Ok(())
 }
 
