@@ -6,7 +6,8 @@ ghost use Rattle.tuple_core.specs.Values.{FitsValue};
 use super::*;
 use med_prelude::Listed;
 use query_core::{Arrivals, Atom, Comparison, Query, Term};
-use std::alloc::{AllocError, Global};
+use std::alloc::Global;
+use std::process::Abort;
 use std::test::Fail;
 use tuple_core::{Kind, Op, Row, Rows, Value, parse_value};
 
@@ -20,6 +21,14 @@ fn value(alloc: Global, field: &str) -> Result<Value, Fail>
         }
     }
     Ok(parse_value(alloc, Kind::Text, field.as_bytes())?.ok_or("no value")?)
+}
+
+// A field with a star in front is the variable of that number, and each other one a constant.
+fn term(alloc: Global, field: &str) -> Result<Term, Fail> {
+    match field.strip_prefix('*') {
+        Some(number) => Ok(Term::Variable(number.parse()?)),
+        None => Ok(Term::Constant(value(alloc, field)?)),
+    }
 }
 
 fn row(alloc: Global, line: &str) -> Result<Row, Fail> {
@@ -42,246 +51,184 @@ fn rows(alloc: Global, lines: &str) -> Result<Rows, Fail> {
     Ok(rows)
 }
 
-fn atom(terms: Vec<Term>) -> Atom {
-    Atom {
-        relation: 0,
-        terms: Listed::from_vec(terms),
+// An atom of each line; its terms stand between bars.
+fn atoms(alloc: Global, lines: &str) -> Result<Listed<Atom>, Fail> {
+    let mut atoms = Listed::new(alloc);
+    for line in lines.lines() {
+        let mut terms = Listed::new(alloc);
+        for field in line.split('|') {
+            terms.push(term(alloc, field)?)?;
+        }
+        atoms.push(Atom { relation: 0, terms })?;
     }
+    Ok(atoms)
 }
 
-// An atom of variables alone.
-fn over(alloc: Global, variables: &[u32]) -> Result<Atom, AllocError> {
-    let mut terms = Vec::new(alloc);
-    for variable in variables {
-        terms.push(Term::Variable(*variable))?;
+// A query whose variables are numbers, the rows that came for its atoms, and the rows of its answer.
+struct Case<'a> {
+    head: &'a [u32],
+    atoms: &'a str,
+    comparisons: &'a [(&'a str, Op, &'a str)],
+    arrivals: &'a [&'a str],
+    answer: &'a str,
+}
+
+fn query(alloc: Global, case: &Case) -> Result<Query, Fail> {
+    let mut comparisons = Listed::new(alloc);
+    for (left, op, right) in case.comparisons {
+        comparisons.push(Comparison {
+            left: term(alloc, left)?,
+            op: *op,
+            right: term(alloc, right)?,
+        })?;
     }
-    Ok(atom(terms))
+    Ok(Query {
+        head: Listed::from_vec(case.head.to_vec(alloc)?),
+        atoms: atoms(alloc, case.atoms)?,
+        comparisons,
+    })
 }
 
-fn constant(alloc: Global, field: &str) -> Result<Term, Fail> {
-    Ok(Term::Constant(value(alloc, field)?))
+fn answer(alloc: Global, case: &Case) -> Result<Rows, Fail> {
+    let query = query(alloc, case)?;
+    let mut arrivals = Arrivals::new(alloc);
+    for lines in case.arrivals {
+        arrivals.push(rows(alloc, lines)?)?;
+    }
+    if query.head.len() > 64 {
+        return Err(Fail::from("too many variables in the head"));
+    }
+    Ok(slow_answer(alloc, &query, &arrivals)?)
 }
 
-fn compared(left: Term, op: Op, right: Term) -> Comparison {
-    Comparison { left, op, right }
-}
-
-fn answer_of(
-    alloc: Global,
-    head: Vec<u32>,
-    atoms: Vec<Atom>,
-    comparisons: Vec<Comparison>,
-    arrivals: Vec<Rows>,
-) -> Result<Rows, AllocError>
-    requires { length head.items ≤ 64 }
-{
-    let query = Query {
-        head: Listed::from_vec(head),
-        atoms: Listed::from_vec(atoms),
-        comparisons: Listed::from_vec(comparisons),
-    };
-    slow_answer(alloc, &query, &Arrivals::from_vec(arrivals))
-}
-
-#[test]
-fn joins_two_relations_on_a_middle_column(rt: HostRuntime) -> Result<(), Fail> {
-    let alloc = rt.alloc();
-    let [x, z, y] = [0, 1, 2];
-    let answer = answer_of(
-        alloc,
-        vec![in alloc; x, z]?,
-        vec![in alloc; over(alloc, &[x, y])?, over(alloc, &[y, z])?]?,
-        Vec::new(alloc),
-        vec![in alloc;
-            rows(alloc, "1|10\n2|20\n3|30")?,
-            rows(alloc, "20|b\n30|c\n40|d")?,
-        ]?,
-    )?;
-    assert_eq!(rt; answer.as_slice(), rows(alloc, "2|b\n3|c")?.as_slice());
+fn check(rt: &impl Abort, alloc: Global, cases: &[Case]) -> Result<(), Fail> {
+    for case in cases {
+        let wanted = rows(alloc, case.answer)?;
+        assert_eq!(rt;
+            answer(alloc, case)?.as_slice(),
+            wanted.as_slice(),
+            "{}",
+            case.atoms
+        );
+    }
     Ok(())
 }
 
-#[test]
-fn joins_a_relation_with_itself(rt: HostRuntime) -> Result<(), Fail> {
-    let alloc = rt.alloc();
-    let [x, z, y] = [0, 1, 2];
-    let edges = "1|2\n2|3\n2|4\n3|4";
-    let answer = answer_of(
-        alloc,
-        vec![in alloc; x, z]?,
-        vec![in alloc; over(alloc, &[x, y])?, over(alloc, &[y, z])?]?,
-        Vec::new(alloc),
-        vec![in alloc; rows(alloc, edges)?, rows(alloc, edges)?]?,
-    )?;
-    assert_eq!(rt; answer.as_slice(), rows(alloc, "1|3\n1|4\n2|4")?.as_slice());
-    Ok(())
-}
+static JOINED: [Case<'static>; 4] = [
+    // two relations joined on a middle column
+    Case {
+        head: &[0, 1],
+        atoms: "*0|*2\n*2|*1",
+        comparisons: &[],
+        arrivals: &["1|10\n2|20\n3|30", "20|b\n30|c\n40|d"],
+        answer: "2|b\n3|c",
+    },
+    // a relation joined with itself
+    Case {
+        head: &[0, 1],
+        atoms: "*0|*2\n*2|*1",
+        comparisons: &[],
+        arrivals: &["1|2\n2|3\n2|4\n3|4", "1|2\n2|3\n2|4\n3|4"],
+        answer: "1|3\n1|4\n2|4",
+    },
+    // each row with each row: they come in falling order, and are answered in rising order
+    Case {
+        head: &[0, 1],
+        atoms: "*0\n*1",
+        comparisons: &[],
+        arrivals: &["3\n2\n1", "7\n6\n5\n4"],
+        answer: "1|4\n1|5\n1|6\n1|7\n2|4\n2|5\n2|6\n2|7\n3|4\n3|5\n3|6\n3|7",
+    },
+    // flights with hotels and cars
+    Case {
+        head: &[0, 1, 2],
+        atoms: "*0|SEA|*3|*4\n*3|*1|*5\n*3|*2",
+        comparisons: &[("*4", Op::Lt, "500"), ("*5", Op::Le, "120")],
+        arrivals: &[
+            "UA1|SEA|BOS|310\nUA1|SEA|BOS|310\nUA2|SEA|JFK|520\nDL7|PDX|BOS|200\nAS3|SEA|LAX|150",
+            "BOS|Inn, Old|95\nBOS|Ritz|300\nLAX|Surf|120",
+            "BOS|Acme\nLAX|Acme\nLAX|Zip",
+        ],
+        answer: "AS3|Surf|Acme\nAS3|Surf|Zip\nUA1|Inn, Old|Acme",
+    },
+];
 
-// The rows come in falling order, and are answered in rising order.
-#[test]
-fn pairs_each_row_with_each_row(rt: HostRuntime) -> Result<(), Fail> {
-    let alloc = rt.alloc();
-    let [x, y] = [0, 1];
-    let answer = answer_of(
-        alloc,
-        vec![in alloc; x, y]?,
-        vec![in alloc; over(alloc, &[x])?, over(alloc, &[y])?]?,
-        Vec::new(alloc),
-        vec![in alloc; rows(alloc, "3\n2\n1")?, rows(alloc, "7\n6\n5\n4")?]?,
-    )?;
-    let wanted = "1|4\n1|5\n1|6\n1|7\n2|4\n2|5\n2|6\n2|7\n3|4\n3|5\n3|6\n3|7";
-    assert_eq!(rt; answer.len(), 12);
-    assert_eq!(rt; answer.as_slice(), rows(alloc, wanted)?.as_slice());
-    Ok(())
-}
-
-#[test]
-fn finds_flights_with_hotels_and_cars(rt: HostRuntime) -> Result<(), Fail> {
-    let alloc = rt.alloc();
-    let [flight, hotel, firm, town, price, cost] = [0, 1, 2, 3, 4, 5];
-    let from_seattle = vec![in alloc;
-        Term::Variable(flight),
-        constant(alloc, "SEA")?,
-        Term::Variable(town),
-        Term::Variable(price),
-    ]?;
-    let atoms = vec![in alloc;
-        atom(from_seattle),
-        over(alloc, &[town, hotel, cost])?,
-        over(alloc, &[town, firm])?,
-    ]?;
-    let comparisons = vec![in alloc;
-        compared(Term::Variable(price), Op::Lt, constant(alloc, "500")?),
-        compared(Term::Variable(cost), Op::Le, constant(alloc, "120")?),
-    ]?;
-    let flights =
-        "UA1|SEA|BOS|310\nUA1|SEA|BOS|310\nUA2|SEA|JFK|520\nDL7|PDX|BOS|200\nAS3|SEA|LAX|150";
-    let hotels = "BOS|Inn, Old|95\nBOS|Ritz|300\nLAX|Surf|120";
-    let cars = "BOS|Acme\nLAX|Acme\nLAX|Zip";
-    let arrivals = vec![in alloc;
-        rows(alloc, flights)?,
-        rows(alloc, hotels)?,
-        rows(alloc, cars)?,
-    ]?;
-    let head = vec![in alloc; flight, hotel, firm]?;
-    let answer = answer_of(alloc, head, atoms, comparisons, arrivals)?;
-    let wanted = "AS3|Surf|Acme\nAS3|Surf|Zip\nUA1|Inn, Old|Acme";
-    assert_eq!(rt; answer.as_slice(), rows(alloc, wanted)?.as_slice());
-    Ok(())
-}
-
-#[test]
-fn a_repeated_variable_has_one_value(rt: HostRuntime) -> Result<(), Fail> {
-    let alloc = rt.alloc();
-    let answer = answer_of(
-        alloc,
-        vec![in alloc; 0]?,
-        vec![in alloc; over(alloc, &[0, 0])?]?,
-        Vec::new(alloc),
-        vec![in alloc; rows(alloc, "5|6\n7|7\n6|5\n8|b")?]?,
-    )?;
-    assert_eq!(rt; answer.as_slice(), rows(alloc, "7")?.as_slice());
-    Ok(())
-}
-
-#[test]
-fn a_constant_is_its_columns_value(rt: HostRuntime) -> Result<(), Fail> {
-    let alloc = rt.alloc();
-    let terms = vec![in alloc; Term::Variable(0), constant(alloc, "b")?]?;
-    let answer = answer_of(
-        alloc,
-        vec![in alloc; 0]?,
-        vec![in alloc; atom(terms)]?,
-        Vec::new(alloc),
-        vec![in alloc; rows(alloc, "1|b\n2|c\n3|4\n4|b\n5|bb")?]?,
-    )?;
-    assert_eq!(rt; answer.as_slice(), rows(alloc, "1\n4")?.as_slice());
-    Ok(())
-}
-
-#[test]
-fn two_variables_are_compared(rt: HostRuntime) -> Result<(), Fail> {
-    let alloc = rt.alloc();
-    let [x, y] = [0, 1];
-    let falling = compared(Term::Variable(y), Op::Lt, Term::Variable(x));
-    let answer = answer_of(
-        alloc,
-        vec![in alloc; x, y]?,
-        vec![in alloc; over(alloc, &[x])?, over(alloc, &[y])?]?,
-        vec![in alloc; falling]?,
-        vec![in alloc; rows(alloc, "1\n2\n3")?, rows(alloc, "1\n2\n3")?]?,
-    )?;
-    assert_eq!(rt; answer.as_slice(), rows(alloc, "2|1\n3|1\n3|2")?.as_slice());
-    Ok(())
-}
-
-#[test]
-fn values_of_two_kinds_never_compare(rt: HostRuntime) -> Result<(), Fail> {
-    let alloc = rt.alloc();
-    let other = compared(Term::Variable(0), Op::Ne, constant(alloc, "b")?);
-    let answer = answer_of(
-        alloc,
-        vec![in alloc; 0]?,
-        vec![in alloc; over(alloc, &[0])?]?,
-        vec![in alloc; other]?,
-        vec![in alloc; rows(alloc, "1\nc\nb\ntrue\na")?]?,
-    )?;
-    assert_eq!(rt; answer.as_slice(), rows(alloc, "a\nc")?.as_slice());
-    Ok(())
-}
+static KEPT: [Case<'static>; 9] = [
+    // a repeated variable has one value
+    Case {
+        head: &[0],
+        atoms: "*0|*0",
+        comparisons: &[],
+        arrivals: &["5|6\n7|7\n6|5\n8|b"],
+        answer: "7",
+    },
+    // a constant is its column's value
+    Case {
+        head: &[0],
+        atoms: "*0|b",
+        comparisons: &[],
+        arrivals: &["1|b\n2|c\n3|4\n4|b\n5|bb"],
+        answer: "1\n4",
+    },
+    // a row is answered once
+    Case {
+        head: &[1],
+        atoms: "*0|*1",
+        comparisons: &[],
+        arrivals: &["1|b\n2|a\n3|b\n4|b"],
+        answer: "a\nb",
+    },
+    // two variables are compared
+    Case {
+        head: &[0, 1],
+        atoms: "*0\n*1",
+        comparisons: &[("*1", Op::Lt, "*0")],
+        arrivals: &["1\n2\n3", "1\n2\n3"],
+        answer: "2|1\n3|1\n3|2",
+    },
+    // values of two kinds never compare
+    Case {
+        head: &[0],
+        atoms: "*0",
+        comparisons: &[("*0", Op::Ne, "b")],
+        arrivals: &["1\nc\nb\ntrue\na"],
+        answer: "a\nc",
+    },
+    // a row is read as far as it has values, and its atom terms
+    Case {
+        head: &[0, 1],
+        atoms: "*0|*1",
+        comparisons: &[],
+        arrivals: &["1|2|3\n4\n5|6"],
+        answer: "1|2\n4\n5|6",
+    },
+    // an atom without rows has no answer
+    Case {
+        head: &[0, 1],
+        atoms: "*0\n*1",
+        comparisons: &[],
+        arrivals: &["1\n2", ""],
+        answer: "",
+    },
+    // a list that is missing has no rows, and one too many is not asked for
+    Case {
+        head: &[0, 1],
+        atoms: "*0\n*1",
+        comparisons: &[],
+        arrivals: &["1\n2"],
+        answer: "",
+    },
+    Case {
+        head: &[0, 1],
+        atoms: "*0\n*1",
+        comparisons: &[],
+        arrivals: &["1\n2", "3", ""],
+        answer: "1|3\n2|3",
+    },
+];
 
 #[test]
-fn a_row_is_answered_once(rt: HostRuntime) -> Result<(), Fail> {
-    let alloc = rt.alloc();
-    let answer = answer_of(
-        alloc,
-        vec![in alloc; 1]?,
-        vec![in alloc; over(alloc, &[0, 1])?]?,
-        Vec::new(alloc),
-        vec![in alloc; rows(alloc, "1|b\n2|a\n3|b\n4|b")?]?,
-    )?;
-    assert_eq!(rt; answer.as_slice(), rows(alloc, "a\nb")?.as_slice());
-    Ok(())
-}
-
-// The answer of a product of `x` and `y`, over these lists of rows.
-fn product(alloc: Global, arrivals: Vec<Rows>) -> Result<Rows, AllocError> {
-    answer_of(
-        alloc,
-        vec![in alloc; 0, 1]?,
-        vec![in alloc; over(alloc, &[0])?, over(alloc, &[1])?]?,
-        Vec::new(alloc),
-        arrivals,
-    )
-}
-
-// A list that is missing has no rows, and one too many is not asked for.
-#[test]
-fn an_atom_without_rows_has_no_answer(rt: HostRuntime) -> Result<(), Fail> {
-    let alloc = rt.alloc();
-    let none = vec![in alloc; rows(alloc, "1\n2")?, rows(alloc, "")?]?;
-    assert!(rt; product(alloc, none)?.is_empty());
-    let missing = vec![in alloc; rows(alloc, "1\n2")?]?;
-    assert!(rt; product(alloc, missing)?.is_empty());
-    let more = vec![in alloc; rows(alloc, "1\n2")?, rows(alloc, "3")?, rows(alloc, "")?]?;
-    assert_eq!(rt;
-        product(alloc, more)?.as_slice(),
-        rows(alloc, "1|3\n2|3")?.as_slice()
-    );
-    Ok(())
-}
-
-// A row is read as far as it has values, and its atom terms.
-#[test]
-fn rows_may_be_of_another_width(rt: HostRuntime) -> Result<(), Fail> {
-    let alloc = rt.alloc();
-    let answer = answer_of(
-        alloc,
-        vec![in alloc; 0, 1]?,
-        vec![in alloc; over(alloc, &[0, 1])?]?,
-        Vec::new(alloc),
-        vec![in alloc; rows(alloc, "1|2|3\n4\n5|6")?]?,
-    )?;
-    assert_eq!(rt; answer.as_slice(), rows(alloc, "1|2\n4\n5|6")?.as_slice());
-    Ok(())
+fn answers_by_nested_choice(rt: HostRuntime) -> Result<(), Fail> {
+    check(&rt, rt.alloc(), JOINED.as_slice())?;
+    check(&rt, rt.alloc(), KEPT.as_slice())
 }
