@@ -3,16 +3,17 @@ use Rattle.std.proofs.Common.{◌≡◌, ℕ, Bool, true, not, ◌&&◌, ◌||�
 use Rattle.std.specs.List.{list_all, AllByRecursion}
 use Rattle.std.proofs.lemmas.Bool.{and_parts, and_from, not-true, or_cases, or_right, eqb-true, false≢true}
 use Rattle.answer_theory.proofs.Bags.{bag_sym}
+use Rattle.answer_theory.proofs.Bindings.{bound_first_entries}
 use Rattle.answer_theory.proofs.Bools.{nat_eq_self}
 use Rattle.std.proofs.lemmas.List.Elements.{All-from_recursion, recursion_from_All}
 use Rattle.answer_theory.specs.Bags.{SameBag}
 use Rattle.answer_theory.specs.Bindings.{Binding, IsSound, has_entry, first_entries}
 use Rattle.answer_theory.specs.Solutions.{names, Binds}
 use Rattle.answer_theory.specs.Trees.{Tree, variables, IsRowOf, no_tables, Holds}
-use Rattle.answer_theory.specs.Rows.{binding_variables, AreDistinct}
+use Rattle.answer_theory.specs.Rows.{over, binding_variables, first_occurrences, AreDistinct}
 use Rattle.answer_theory.proofs.Lists.{each_then}
 use Rattle.answer_theory.proofs.Numbers.{bag_all}
-use Rattle.answer_theory.proofs.Rows.{keeps_others, named_first_entries, each_once_distinct}
+use Rattle.answer_theory.proofs.Rows.{keeps_others, named_over, named_first_entries, each_once_distinct}
 use Rattle.answer_theory.proofs.Trees.{rows_given, binds_fewer}
 
 -- ---- rows by a test
@@ -43,9 +44,19 @@ distinct_true : (vs : List ℕ) → AreDistinct vs → distinct vs ≡ true
 distinct_true [] h = refl
 distinct_true (v ∷ vs) h = and_from (not (names vs v)) (distinct vs) (ap not h.0) (distinct_true vs h.1)
 
-bound_named : {X : Type 0} (b : Binding X) (v : ℕ) → has_entry b v ≡ names (binding_variables b) v
+pub bound_named : {X : Type 0} (b : Binding X) (v : ℕ) → has_entry b v ≡ names (binding_variables b) v
 bound_named [] v = refl
 bound_named (p ∷ b) v = ap (λ t. (p.0 == v) || t) (bound_named b v)
+
+-- a variable occurs where it occurs first
+pub occurrences_named : (vs : List ℕ) (v : ℕ) → names (first_occurrences vs) v ≡ names vs v
+occurrences_named vs v =
+    ap (λ ws. names (first_occurrences ws) v) (sym (named_over vs vs refl))
+    ∙ ap (λ ws. names ws v) (sym (named_first_entries (over vs vs)))
+    ∙ sym (bound_named (first_entries (over vs vs)) v)
+    ∙ bound_first_entries (over vs vs) v
+    ∙ bound_named (over vs vs) v
+    ∙ ap (λ ws. names ws v) (named_over vs vs refl)
 
 once_of_distinct : {X : Type 0} (b : Binding X) → AreDistinct (binding_variables b) → first_entries b ≡ b
 once_of_distinct [] h = refl

@@ -14,3 +14,4 @@ pub mod Tests
 pub mod Held
 pub mod Sorted
 pub mod Examples
+pub mod Few

@@ -207,7 +207,7 @@ names_filter test (w ∷ vs) v e = go (test w) (or_parts (w == v) (names vs v) e
     go true i ih = ap (λ t. t || names (filter test vs) v) i ∙ ih
     go false i ih = ih
 
-distinct_filter : (test : ℕ → Bool) (vs : List ℕ) → AreDistinct vs → AreDistinct (filter test vs)
+pub distinct_filter : (test : ℕ → Bool) (vs : List ℕ) → AreDistinct vs → AreDistinct (filter test vs)
 distinct_filter test [] h = tt
 distinct_filter test (v ∷ vs) h = go (test v) (names_filter test vs v h.0) (distinct_filter test vs h.1)
   where

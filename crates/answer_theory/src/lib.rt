@@ -18,7 +18,7 @@ pub use binding_laws::{entries_agree, first_entries_kept, glued_values};
 pub use choice_laws::{choices_are_solutions, walks_find_solutions};
 pub use order_laws::{leaves_grow, leaves_reordered, plans_give_solutions};
 pub use pair_laws::{joined_are_pairs, one_pair_more, pairs_grow, pairs_parted};
-pub use row_laws::{rows_glue, rows_meet, rows_over};
+pub use row_laws::{rows_glue, rows_meet, rows_over, variables_few};
 pub use tree_laws::{
     fragments_expand, joins_of_solutions, rest_of_solutions, tests_read, trees_give_solutions,
 };

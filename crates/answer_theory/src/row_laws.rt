@@ -1,9 +1,9 @@
 //! Rows of values, in the order of a list of variables, and what they bind.
 
-ghost use Rattle.std.specs.Prelude.{◌≡◌, ℕ, Bool, true, List, ◌++◌, length};
+ghost use Rattle.std.specs.Prelude.{◌≡◌, ℕ, ◌<◌, ◌≤◌, Bool, true, List, ◌++◌, length, All};
 ghost use Rattle.std.specs.List.{list_all};
 ghost use Rattle.answer_theory.specs.Bindings.{Binding, IsSound, meet, value_of, first_entries, glue};
-ghost use Rattle.answer_theory.specs.Solutions.{key};
+ghost use Rattle.answer_theory.specs.Solutions.{key, names};
 ghost use Rattle.answer_theory.specs.Trees.{IsRowOf};
 ghost use Rattle.answer_theory.specs.Rows.{over, values, binding_variables, AreDistinct, first_occurrences, glued_variables, lacked_values, shared_variables, both_join};
 
@@ -16,6 +16,16 @@ pub fn rows_over<X>()
         → IsRowOf vs (over vs row) }
     ensures first_entries { (b : Binding X) → binding_variables (first_entries b) ≡ first_occurrences (binding_variables b) }
     ensures distinct { (vs : List ℕ) → AreDistinct (first_occurrences vs) }
+    ensures names { (vs : List ℕ) (v : ℕ) → names (first_occurrences vs) v ≡ names vs v }
+{}
+
+/// Variables below a limit are no more than the limit where each stands once.
+pub fn variables_few()
+    ensures distinct { (limit : ℕ) (vs : List ℕ) → AreDistinct vs → All (λ v. v < limit) vs → length vs ≤ limit }
+    ensures occurrences { (limit : ℕ) (vs : List ℕ) → All (λ v. v < limit) vs
+        → length (first_occurrences vs) ≤ limit }
+    ensures glued { (limit : ℕ) (us vs : List ℕ) → AreDistinct us → AreDistinct vs → All (λ v. v < limit) us
+        → All (λ v. v < limit) vs → length (glued_variables us vs) ≤ limit }
 {}
 
 /// Glued rows: the left values, and then the right's values of variables that the left lacks.

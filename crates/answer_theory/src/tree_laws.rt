@@ -1,10 +1,10 @@
 //! Trees of joins: whatever the tree, it gives the solutions over its leaves.
 
-ghost use Rattle.std.specs.Prelude.{◌≡◌, ℕ, Bool, ◌&&◌, List, ◌∷◌, ◌++◌, All};
+ghost use Rattle.std.specs.Prelude.{◌≡◌, ℕ, Bool, true, ◌&&◌, List, ◌∷◌, ◌++◌, All};
 ghost use Rattle.std.specs.List.{list_all};
 ghost use Rattle.answer_theory.specs.Bags.{SameBag};
 ghost use Rattle.answer_theory.specs.Bindings.{Binding, IsSound};
-ghost use Rattle.answer_theory.specs.Solutions.{combinations, solutions, joined_rows, Binds, ReadsOnly, ReadsValues};
+ghost use Rattle.answer_theory.specs.Solutions.{combinations, solutions, joined_rows, names, Binds, ReadsOnly, ReadsValues};
 ghost use Rattle.answer_theory.specs.Trees.{Tree, given_rows, leaves, variables, tests, IsRowOf, IsPlaced, expansion, no_tables, Holds, ScansHold};
 
 /// The solutions over leaves side by side are the joined solutions over each part, in the same order.
@@ -52,11 +52,13 @@ pub fn rest_of_solutions<X>()
         (solutions joins (λ b. (done b && left b) && both b) (ls ++ rs)) }
 {}
 
-/// Which variables a test reads: those of its parts. `C` is a comparison.
+/// Which variables a test reads: those of its parts, and more than it needs. `C` is a comparison.
 pub fn tests_read<X, C>()
     ensures values { (vs : List ℕ) (test : Binding X → Bool) → ReadsOnly vs test → ReadsValues test }
     ensures both { (vs : List ℕ) (p q : Binding X → Bool) → ReadsOnly vs p → ReadsOnly vs q
         → ReadsOnly vs (λ b. p b && q b) }
     ensures all { (vs : List ℕ) (test : C → Binding X → Bool) (cs : List C)
         → All (λ c. ReadsOnly vs (test c)) cs → ReadsOnly vs (λ b. list_all (λ c. test c b) cs) }
+    ensures more { (vs ws : List ℕ) (test : Binding X → Bool) → ReadsOnly vs test
+        → ((v : ℕ) → names vs v ≡ true → names ws v ≡ true) → ReadsOnly ws test }
 {}

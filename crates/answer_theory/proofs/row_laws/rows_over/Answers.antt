@@ -1,3 +1,4 @@
+use Rattle.answer_theory.proofs.Held.{occurrences_named}
 use Rattle.answer_theory.proofs.Rows.{over_values, named_over, over_named, over_is_row, named_first_entries, each_once_distinct}
 use Rattle.answer_theory.proofs.row_laws.rows_over.Goals as goal
 
@@ -18,3 +19,6 @@ returns-clause-first_entries g c = named_first_entries
 
 pub returns-clause-distinct : goal.returns-clause-distinct
 returns-clause-distinct g c = each_once_distinct
+
+pub returns-clause-names : goal.returns-clause-names
+returns-clause-names g c = occurrences_named
