@@ -12,7 +12,7 @@ mod valuation;
 mod vars;
 
 pub use filter::{Comparison, Filter, all_hold};
-pub use laws::{filters_read, keys_tell, matched_rows_bind};
+pub use laws::{atoms_are_leaves, filters_read, keys_tell, matched_rows_bind, patterns_bind};
 pub use pattern::{Pattern, Term};
 pub use shape::{JoinShape, Side};
 pub use valuation::Valuation;
