@@ -93,7 +93,11 @@ answer_of query arrivals = answer query.head query.atoms query.comparisons arriv
 abbrev pub answer_text : Query → List RowList → Bytes
 answer_text query arrivals = rows_text (answer_of query arrivals)
 
--- what each row of each atom binds, where the atom's constants are the row's: the leaves of joins
+-- an atom as a leaf of joins: what each of its rows binds, where the atom's constants are the row's
+abbrev pub leaf_of : Atom → RowList → List (Binding Value)
+leaf_of atom rows = fitting_rows item_fits item_entries (items_of atom rows)
+
+-- the leaves of all atoms
 abbrev pub leaf_rows : List Atom → List RowList → List (List (Binding Value))
 leaf_rows atoms arrivals = map (fitting_rows item_fits item_entries) (items atoms arrivals)
 

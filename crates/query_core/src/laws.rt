@@ -1,11 +1,14 @@
 //! The laws of answers, for callers' proofs.
 
-ghost use Rattle.std.specs.Prelude.{◌≡◌, ℕ, List, map};
+ghost use Rattle.std.specs.Prelude.{◌≡◌, ℕ, Bool, List, length, map, filter, All};
+ghost use Rattle.std.specs.List.{filter_map};
 ghost use Rattle.answer_theory.specs.Bags.{SameBag};
 ghost use Rattle.answer_theory.specs.Bindings.{Binding};
-ghost use Rattle.answer_theory.specs.Solutions.{valuations};
-ghost use Rattle.query_core.specs.Answers.{answer, binding_at, choices, head_row, heads, solutions_of};
+ghost use Rattle.answer_theory.specs.Rows.{over};
+ghost use Rattle.answer_theory.specs.Solutions.{Binds, chosen_rows, valuations};
+ghost use Rattle.query_core.specs.Answers.{answer, binding_at, choices, head_row, heads, leaf_of, solutions_of};
 ghost use Rattle.query_core.specs.declared.query.Atom.{Atom as AnAtom};
+ghost use Rattle.row_match.specs.Patterns.{matched_row, pattern_variables, values_join};
 ghost use Rattle.row_match.specs.declared.filter.Comparison.{Comparison as AComparison};
 ghost use Rattle.tuple_core.specs.Distinct.{AreSortedDistinct};
 ghost use Rattle.tuple_core.specs.Values.{RowList};
@@ -40,4 +43,15 @@ pub fn same_values_answer()
         (found rows : RowList)
         → SameBag found (heads head atoms comparisons arrivals) → AreSortedDistinct found rows
         → rows ≡ answer head atoms comparisons arrivals }
+{}
+
+/// An atom as a leaf of joins: its rows bind the variables of its terms, and under a test it gives the matched rows that
+/// pass it, in their order.
+pub fn atoms_give_leaves()
+    ensures binds { (atom : AnAtom) (rows : RowList) → All (λ row. length row ≡ length atom.terms) rows
+        → All (Binds (pattern_variables atom.terms)) (leaf_of atom rows) }
+    ensures gives { (test : Binding AValue → Bool) (atom : AnAtom) (rows : RowList)
+        → All (λ row. length row ≡ length atom.terms) rows
+        → chosen_rows values_join test (leaf_of atom rows)
+        ≡ filter test (map (over (pattern_variables atom.terms)) (filter_map (matched_row atom.terms) rows)) }
 {}

@@ -8,13 +8,14 @@
 //! `answer_of` and `answer_text` speak of a whole query. Worked joins stand in `proofs/Examples.antt`.
 //!
 //! The laws, each the contract of a function that does nothing: [`one_answer`], what an answer is, and that
-//! only one list is so; [`heads_of_solutions`], how heads come from the solutions of the theory of answers; and
-//! [`same_values_answer`], that rows with the same values give the same answer, in whatever order they came.
+//! only one list is so; [`heads_of_solutions`], how heads come from the solutions of the theory of answers;
+//! [`same_values_answer`], that rows with the same values give the same answer, in whatever order they came; and
+//! [`atoms_give_leaves`], what an atom gives to joins.
 #![tactic(auto)]
 
 mod laws;
 mod query;
 
-pub use laws::{heads_of_solutions, one_answer, same_values_answer};
+pub use laws::{atoms_give_leaves, heads_of_solutions, one_answer, same_values_answer};
 pub use query::{Arrivals, Atom, Query};
 pub use row_match::{Comparison, Term};
