@@ -11,7 +11,7 @@ use Rattle.answer_theory.proofs.Lists.{map_map, flat_map_map}
 use Rattle.answer_theory.proofs.Numbers.{bag_contains}
 use Rattle.row_match.specs.Filters.{all_hold}
 use Rattle.row_match.specs.Patterns.{entries_of, fits, matched_row, pattern_variables, values_join}
-use Rattle.row_match.proofs.Telling.{leaf_binds, rows_chosen}
+use Rattle.row_match.proofs.Leaves.{leaf_binds, rows_chosen}
 use Rattle.row_match.specs.declared.filter.Comparison.{Comparison}
 use Rattle.tuple_core.specs.Distinct.{AreSortedDistinct}
 use Rattle.tuple_core.specs.Order.{row_eq, rows_decided}

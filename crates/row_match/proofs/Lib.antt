@@ -4,5 +4,6 @@ pub mod Walks
 pub mod Preparing
 pub mod Gathering
 pub mod Keys
+pub mod Leaves
 pub mod Telling
 pub mod Reading

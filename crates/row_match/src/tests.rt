@@ -1,119 +1,106 @@
 //! Rows matched, tested and joined, with expected values by hand.
 
 ghost use Rattle.std.specs.Prelude.{◌≡◌, IfOk, length};
+ghost use Rattle.tuple_core.specs.Values.{FitsValue};
 
 use super::*;
 use std::alloc::{AllocError, Global};
 use std::test::Fail;
 use tuple_core::{KeyRoom, Op, Row, Value};
 
-fn numbers(alloc: Global, first: i64, second: i64, third: i64) -> Result<Row, AllocError>
+fn triple(alloc: Global, first: i64, second: i64, third: i64) -> Result<Row, AllocError>
     ensures { IfOk result (λ row. length row ≡ 3) }
 {
     Ok(Row::new(vec![in alloc; Value::Int(first), Value::Int(second), Value::Int(third)]?))
 }
 
+fn pair(alloc: Global, first: Value, second: i64) -> Result<Row, AllocError>
+    requires { FitsValue first }
+    ensures { IfOk result (λ row. length row ≡ 2) }
+{
+    Ok(Row::new(vec![in alloc; first, Value::Int(second)]?))
+}
+
+// The values are kept in the order in which their variables first stand.
 #[test]
-fn matches_a_constant_and_a_repeated_variable(rt: HostRuntime) -> Result<(), Fail> {
-    let terms = vec![in rt.alloc();
+fn matches_constants_and_repeated_variables(rt: HostRuntime) -> Result<(), Fail> {
+    let alloc = rt.alloc();
+    let terms = vec![in alloc;
         Term::Variable(5),
         Term::Constant(Value::Int(7)),
         Term::Variable(5),
     ]?;
-    let pattern = Pattern::new(rt.alloc(), terms)?;
-    assert_eq!(rt; pattern.variables().as_slice(), [5].as_slice());
-    let matched = pattern.match_row(rt.alloc(), &numbers(rt.alloc(), 1, 7, 1)?)?;
-    let wanted = Row::new(vec![in rt.alloc(); Value::Int(1)]?);
-    assert_eq!(rt; matched, Some(wanted));
-    let repeat_differs = pattern.match_row(rt.alloc(), &numbers(rt.alloc(), 1, 7, 2)?)?;
-    assert_eq!(rt; repeat_differs, None);
-    let constant_differs = pattern.match_row(rt.alloc(), &numbers(rt.alloc(), 1, 8, 1)?)?;
-    assert_eq!(rt; constant_differs, None);
-    Ok(())
-}
-
-#[test]
-fn keeps_values_in_the_order_of_first_occurrence(rt: HostRuntime) -> Result<(), Fail> {
-    let terms = vec![in rt.alloc(); Term::Variable(2), Term::Variable(0), Term::Variable(2)]?;
-    let pattern = Pattern::new(rt.alloc(), terms)?;
-    let matched = pattern.match_row(rt.alloc(), &numbers(rt.alloc(), 4, 3, 4)?)?;
-    let wanted = Row::new(vec![in rt.alloc(); Value::Int(4), Value::Int(3)]?);
-    assert_eq!(rt; matched, Some(wanted));
+    let pattern = Pattern::new(alloc, terms)?;
+    for (second, third, fits) in [(7, 1, true), (7, 2, false), (8, 1, false)] {
+        let matched = pattern.match_row(alloc, &triple(alloc, 1, second, third)?)?;
+        assert_eq!(rt; matched.is_some(), fits);
+    }
+    let terms = vec![in alloc; Term::Variable(2), Term::Variable(0), Term::Variable(2)]?;
+    let pattern = Pattern::new(alloc, terms)?;
     assert_eq!(rt; pattern.variables().as_slice(), [2, 0].as_slice());
+    let matched = pattern.match_row(alloc, &triple(alloc, 4, 3, 4)?)?;
+    assert_eq!(rt; matched, Some(pair(alloc, Value::Int(4), 3)?));
     Ok(())
 }
 
-fn pair(alloc: Global, first: i64, second: i64) -> Result<Row, AllocError>
-    ensures { IfOk result (λ row. length row ≡ 2) }
-{
-    Ok(Row::new(vec![in alloc; Value::Int(first), Value::Int(second)]?))
-}
-
-/// Whether the second value compares so with the first.
+// Whether the second value compares so with the first: the variables stand in the other order than the sides.
 fn holds(alloc: Global, op: Op, row: &Row) -> Result<bool, AllocError>
     requires { length row.now ≡ 2 }
 {
-    let vars = Vars::new(vec![in alloc; 3, 1]?);
     let comparison = Comparison {
         left: Term::Variable(1),
         op,
         right: Term::Variable(3),
     };
-    let filter = Filter::new(vars, vec![in alloc; comparison]?);
+    let filter = Filter::new(
+        Vars::new(vec![in alloc; 3, 1]?),
+        vec![in alloc; comparison]?,
+    );
     Ok(filter.holds(row))
 }
 
-// The variables stand in the other order than the comparison's sides.
 #[test]
 fn compares_two_variables(rt: HostRuntime) -> Result<(), Fail> {
     let alloc = rt.alloc();
-    assert!(rt; holds(alloc, Op::Lt, &pair(alloc, 2, 1)?)?);
-    assert!(rt; !holds(alloc, Op::Lt, &pair(alloc, 1, 2)?)?);
-    assert!(rt; !holds(alloc, Op::Lt, &pair(alloc, 2, 2)?)?);
-    assert!(rt; holds(alloc, Op::Le, &pair(alloc, 2, 2)?)?);
-    Ok(())
-}
-
-#[test]
-fn no_operator_holds_between_kinds(rt: HostRuntime) -> Result<(), Fail> {
-    let row = Row::new(vec![in rt.alloc(); Value::Int(1), Value::Bool(true)]?);
+    let cases = [
+        (Op::Lt, 2, 1, true),
+        (Op::Lt, 1, 2, false),
+        (Op::Lt, 2, 2, false),
+        (Op::Le, 2, 2, true),
+    ];
+    for (op, first, second, wanted) in cases {
+        let row = pair(alloc, Value::Int(first), second)?;
+        assert_eq!(rt; holds(alloc, op, &row)?, wanted);
+    }
+    let of_two_kinds = pair(alloc, Value::Bool(true), 1)?;
     for op in [Op::Eq, Op::Ne, Op::Lt, Op::Le, Op::Gt, Op::Ge] {
-        assert!(rt; !holds(rt.alloc(), op, &row)?);
+        assert!(rt; !holds(alloc, op, &of_two_kinds)?);
     }
     Ok(())
 }
 
+// Shared values are glued once, and their key has them in the left side's order.
 #[test]
-fn glue_takes_a_shared_value_once(rt: HostRuntime) -> Result<(), Fail> {
-    let left = Vars::new(vec![in rt.alloc(); 0, 1, 2]?);
-    let right = Vars::new(vec![in rt.alloc(); 3, 1]?);
-    let shape = JoinShape::new(rt.alloc(), &left, &right)?;
+fn joins_rows(rt: HostRuntime) -> Result<(), Fail> {
+    let alloc = rt.alloc();
+    let left = Vars::new(vec![in alloc; 0, 1, 2]?);
+    let right = Vars::new(vec![in alloc; 2, 3, 1]?);
+    let shape = JoinShape::new(alloc, &left, &right)?;
     assert_eq!(rt; shape.variables().as_slice(), [0, 1, 2, 3].as_slice());
-    let right_row = Row::new(vec![in rt.alloc(); Value::Bool(true), Value::Int(20)]?);
-    let glued = shape.glue(rt.alloc(), &numbers(rt.alloc(), 10, 20, 30)?, &right_row)?;
-    let wanted = vec![in rt.alloc();
-        Value::Int(10),
-        Value::Int(20),
-        Value::Int(30),
-        Value::Bool(true),
-    ]?;
+    let left_row = triple(alloc, 9, 1, 2)?;
+    let glued = shape.glue(alloc, &left_row, &triple(alloc, 2, 7, 1)?)?;
+    let wanted = vec![in alloc; Value::Int(9), Value::Int(1), Value::Int(2), Value::Int(7)]?;
     assert_eq!(rt; glued, Row::new(wanted));
-    Ok(())
-}
-
-#[test]
-fn keys_are_equal_where_shared_values_are(rt: HostRuntime) -> Result<(), Fail> {
-    let left = Vars::new(vec![in rt.alloc(); 0, 1, 2]?);
-    let right = Vars::new(vec![in rt.alloc(); 2, 3, 1]?);
-    let shape = JoinShape::new(rt.alloc(), &left, &right)?;
-    let mut left_room = KeyRoom::new(rt.alloc())?;
-    let mut right_room = KeyRoom::new(rt.alloc())?;
-    shape.key_of(Side::Left, &numbers(rt.alloc(), 9, 1, 2)?, &mut left_room);
-    shape.key_of(Side::Right, &numbers(rt.alloc(), 2, 7, 1)?, &mut right_room);
-    let wanted = b"\x02\x01\0\0\0\0\0\0\0\x01\x01\0\0\0\0\0\0\0\x02";
-    assert_eq!(rt; left_room.as_slice(), wanted.as_slice());
-    assert_eq!(rt; right_room.as_slice(), wanted.as_slice());
-    shape.key_of(Side::Right, &numbers(rt.alloc(), 1, 7, 2)?, &mut right_room);
-    assert!(rt; left_room.as_slice() != right_room.as_slice());
+    let mut room = KeyRoom::new(alloc)?;
+    shape.key_of(Side::Left, &left_row, &mut room);
+    assert_eq!(rt;
+        room.as_slice(),
+        b"\x02\x01\0\0\0\0\0\0\0\x01\x01\0\0\0\0\0\0\0\x02".as_slice()
+    );
+    for (first, last, same) in [(2, 1, true), (1, 2, false)] {
+        let mut other = KeyRoom::new(alloc)?;
+        shape.key_of(Side::Right, &triple(alloc, first, 7, last)?, &mut other);
+        assert_eq!(rt; room.as_slice() == other.as_slice(), same);
+    }
     Ok(())
 }

@@ -1,4 +1,4 @@
-use Rattle.row_match.proofs.Telling.{leaf_binds, rows_chosen}
+use Rattle.row_match.proofs.Leaves.{leaf_binds, rows_chosen}
 use Rattle.row_match.proofs.laws.atoms_are_leaves.Goals as goal
 
 pub returns-clause-binds : goal.returns-clause-binds

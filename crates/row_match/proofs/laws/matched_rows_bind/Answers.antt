@@ -1,4 +1,4 @@
-use Rattle.row_match.proofs.Telling.{matched_binds, matched_width, matched_is_row}
+use Rattle.row_match.proofs.Leaves.{matched_binds, matched_width, matched_is_row}
 use Rattle.row_match.proofs.laws.matched_rows_bind.Goals as goal
 
 pub returns-clause-entries : goal.returns-clause-entries

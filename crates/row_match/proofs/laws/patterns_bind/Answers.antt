@@ -1,7 +1,7 @@
 use Rattle.answer_theory.proofs.Held.{occurrences_named}
 use Rattle.answer_theory.proofs.Rows.{each_once_distinct}
 use Rattle.row_match.specs.Patterns.{term_variables}
-use Rattle.row_match.proofs.Telling.{entries_bind}
+use Rattle.row_match.proofs.Leaves.{entries_bind}
 use Rattle.row_match.proofs.laws.patterns_bind.Goals as goal
 
 pub returns-clause-entries : goal.returns-clause-entries
