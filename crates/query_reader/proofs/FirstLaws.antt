@@ -4,9 +4,10 @@ use Rattle.std.specs.Prelude.{is_some}
 use Rattle.std.specs.List.{find, list_any, position_or_len}
 use Rattle.cat_reader.specs.Relations.{same_text}
 use Rattle.cat_reader.specs.declared.catalogue.Relation.{Relation}
-use Rattle.query_reader.specs.Directories.{numbered}
-use Rattle.query_reader.specs.Named.{firsts_named, has_name, number_named, value_named}
-use Rattle.query_reader.proofs.NamedLaws.{same_name}
+use Rattle.query_reader.specs.Directories.{relation_positions}
+use Rattle.query_reader.specs.Reading.{relation_position}
+use Rattle.query_reader.specs.Mentions.{first_mentions, has_name, number_named, value_named}
+use Rattle.query_reader.proofs.MentionLaws.{same_name}
 
 -- what is left out of a list without an element that passes
 find_kept : {A : Type 0} (test keep : A → Bool) → ((x : A) → test x ≡ true → keep x ≡ true) → (xs : List A) → find test (filter keep xs) ≡ find test xs
@@ -36,20 +37,20 @@ apart name other third differs same = by (same_text other third) refl
     by false e = refl
 
 module _ {X : Type 0} (name : List ℕ) where
-  found_first : (all : List (List ℕ × X)) → find (λ (n : List ℕ × X). same_text name n.0) (firsts_named all) ≡ find (λ (n : List ℕ × X). same_text name n.0) all
+  found_first : (all : List (List ℕ × X)) → find (λ (n : List ℕ × X). same_text name n.0) (first_mentions all) ≡ find (λ (n : List ℕ × X). same_text name n.0) all
   found_first [] = refl
   found_first (n ∷ more) = by (same_text name n.0) refl (found_first more)
     where
-      by : (b : Bool) → same_text name n.0 ≡ b → find (λ (m : List ℕ × X). same_text name m.0) (firsts_named more) ≡ find (λ (m : List ℕ × X). same_text name m.0) more
-          → cond b (Some n) (find (λ (m : List ℕ × X). same_text name m.0) (filter (λ (m : List ℕ × X). not (same_text n.0 m.0)) (firsts_named more))) ≡ cond b (Some n) (find (λ (m : List ℕ × X). same_text name m.0) more)
+      by : (b : Bool) → same_text name n.0 ≡ b → find (λ (m : List ℕ × X). same_text name m.0) (first_mentions more) ≡ find (λ (m : List ℕ × X). same_text name m.0) more
+          → cond b (Some n) (find (λ (m : List ℕ × X). same_text name m.0) (filter (λ (m : List ℕ × X). not (same_text n.0 m.0)) (first_mentions more))) ≡ cond b (Some n) (find (λ (m : List ℕ × X). same_text name m.0) more)
       by true e rest = refl
-      by false e rest = find_kept (λ (m : List ℕ × X). same_text name m.0) (λ (m : List ℕ × X). not (same_text n.0 m.0)) (λ m same. apart name n.0 m.0 e same) (firsts_named more) ∙ rest
+      by false e rest = find_kept (λ (m : List ℕ × X). same_text name m.0) (λ (m : List ℕ × X). not (same_text n.0 m.0)) (λ m same. apart name n.0 m.0 e same) (first_mentions more) ∙ rest
 
-  pub value_of_firsts : (all : List (List ℕ × X)) → value_named (firsts_named all) name ≡ value_named all name
+  pub value_of_firsts : (all : List (List ℕ × X)) → value_named (first_mentions all) name ≡ value_named all name
   value_of_firsts all = ap (λ (o : Option (List ℕ × X)). option_map (λ (n : List ℕ × X). n.1) o) (found_first all)
 
-  pub has_of_firsts : (all : List (List ℕ × X)) → has_name (firsts_named all) name ≡ has_name all name
-  has_of_firsts all = any_found (λ (n : List ℕ × X). same_text name n.0) (firsts_named all) ∙ ap is_some (found_first all) ∙ sym (any_found (λ (n : List ℕ × X). same_text name n.0) all)
+  pub has_of_firsts : (all : List (List ℕ × X)) → has_name (first_mentions all) name ≡ has_name all name
+  has_of_firsts all = any_found (λ (n : List ℕ × X). same_text name n.0) (first_mentions all) ∙ ap is_some (found_first all) ∙ sym (any_found (λ (n : List ℕ × X). same_text name n.0) all)
 
   pub number_within : (all : List (List ℕ × X)) → number_named all name ≤ length all
   number_within [] = omega arith
@@ -60,6 +61,15 @@ module _ {X : Type 0} (name : List ℕ) where
       by false within = omega arith
 
 -- ---- a relation by its position
+
+-- a position is at most how many relations there are
+pub position_within : (name : List ℕ) (relations : List Relation) → relation_position relations name ≤ length relations
+position_within name [] = omega arith
+position_within name (r ∷ relations) = by (same_text name r.name) (position_within name relations)
+  where
+    by : (b : Bool) → relation_position relations name ≤ length relations → cond (not b) (1 + relation_position relations name) 0 ≤ suc (length relations)
+    by true within = omega arith
+    by false within = omega arith
 
 -- the relation of this name is at the position, which is that of the first one of the name
 pub record IsAt (name : List ℕ) (relations : List Relation) (position : ℕ) : Type 0 where
@@ -72,13 +82,13 @@ pub record IsMissing (name : List ℕ) (relations : List Relation) : Type 0 wher
   pub number : length relations ≡ position_or_len (λ (r : Relation). same_text name r.name) relations
 
 module _ (name : List ℕ) where
-  at_from : (k : ℕ) (relations : List Relation) (position : ℕ) → Some position ≡ value_named (numbered k relations) name → (j : ℕ) × (position ≡ k + j) × IsAt name relations j
+  at_from : (k : ℕ) (relations : List Relation) (position : ℕ) → Some position ≡ value_named (relation_positions k relations) name → (j : ℕ) × (position ≡ k + j) × IsAt name relations j
   at_from k [] position found = cc
   at_from k (r ∷ relations) position found = by (same_text name r.name) refl (at_from (k + 1) relations position) found
     where
       by : (b : Bool) → same_text name r.name ≡ b
-          → (Some position ≡ value_named (numbered (k + 1) relations) name → (j : ℕ) × (position ≡ k + 1 + j) × IsAt name relations j)
-          → Some position ≡ option_map (λ (n : List ℕ × ℕ). n.1) (cond b (Some (r.name, k)) (find (λ (n : List ℕ × ℕ). same_text name n.0) (numbered (k + 1) relations)))
+          → (Some position ≡ value_named (relation_positions (k + 1) relations) name → (j : ℕ) × (position ≡ k + 1 + j) × IsAt name relations j)
+          → Some position ≡ option_map (λ (n : List ℕ × ℕ). n.1) (cond b (Some (r.name, k)) (find (λ (n : List ℕ × ℕ). same_text name n.0) (relation_positions (k + 1) relations)))
           → (j : ℕ) × (position ≡ k + j) × IsAt name (r ∷ relations) j
       by true e rest found =
           let here : position ≡ k = cc in (
@@ -100,13 +110,13 @@ module _ (name : List ℕ) where
             },
           )
 
-  missing_from : (k : ℕ) (relations : List Relation) → None ≡ value_named (numbered k relations) name → IsMissing name relations
+  missing_from : (k : ℕ) (relations : List Relation) → None ≡ value_named (relation_positions k relations) name → IsMissing name relations
   missing_from k [] missing = record { relation = refl; number = refl }
   missing_from k (r ∷ relations) missing = by (same_text name r.name) refl (missing_from (k + 1) relations) missing
     where
       by : (b : Bool) → same_text name r.name ≡ b
-          → (None ≡ value_named (numbered (k + 1) relations) name → IsMissing name relations)
-          → None ≡ option_map (λ (n : List ℕ × ℕ). n.1) (cond b (Some (r.name, k)) (find (λ (n : List ℕ × ℕ). same_text name n.0) (numbered (k + 1) relations)))
+          → (None ≡ value_named (relation_positions (k + 1) relations) name → IsMissing name relations)
+          → None ≡ option_map (λ (n : List ℕ × ℕ). n.1) (cond b (Some (r.name, k)) (find (λ (n : List ℕ × ℕ). same_text name n.0) (relation_positions (k + 1) relations)))
           → IsMissing name (r ∷ relations)
       by true e rest missing = cc
       by false e rest missing =
@@ -118,14 +128,14 @@ module _ (name : List ℕ) where
           }
 
   -- what a directory finds
-  pub found_at : (relations : List Relation) (positions : List (List ℕ × ℕ)) (position : ℕ) → positions ≡ firsts_named (numbered 0 relations)
+  pub found_at : (relations : List Relation) (positions : List (List ℕ × ℕ)) (position : ℕ) → positions ≡ first_mentions (relation_positions 0 relations)
       → Some position ≡ value_named positions name → IsAt name relations position
   found_at relations positions position is found =
-      let at = at_from 0 relations position (found ∙ ap (λ (ns : List (List ℕ × ℕ)). value_named ns name) is ∙ value_of_firsts name (numbered 0 relations)) in
+      let at = at_from 0 relations position (found ∙ ap (λ (ns : List (List ℕ × ℕ)). value_named ns name) is ∙ value_of_firsts name (relation_positions 0 relations)) in
       let same : position ≡ at.0 = omega (arith, at.1) in
       rw same at.2
 
-  pub found_none : (relations : List Relation) (positions : List (List ℕ × ℕ)) → positions ≡ firsts_named (numbered 0 relations)
+  pub found_none : (relations : List Relation) (positions : List (List ℕ × ℕ)) → positions ≡ first_mentions (relation_positions 0 relations)
       → None ≡ value_named positions name → IsMissing name relations
   found_none relations positions is missing =
-      missing_from 0 relations (missing ∙ ap (λ (ns : List (List ℕ × ℕ)). value_named ns name) is ∙ value_of_firsts name (numbered 0 relations))
+      missing_from 0 relations (missing ∙ ap (λ (ns : List (List ℕ × ℕ)). value_named ns name) is ∙ value_of_firsts name (relation_positions 0 relations))

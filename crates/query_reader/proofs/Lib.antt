@@ -1,6 +1,7 @@
-pub mod NamedLaws
+pub mod MentionLaws
 pub mod FirstLaws
-pub mod PlacesLaws
+pub mod OffsetLaws
+mod BoundLaws
 mod GrammarLaws
 pub mod FittingLaws
 mod ReadingExamples

@@ -1,8 +1,9 @@
 -- The relations of a catalogue by name.
 use Rattle.std.specs.Prelude.{ℕ, ◌+◌, List, [], ◌∷◌}
+use Rattle.med_prelude.specs.Texts.{Bytes}
 use Rattle.cat_reader.specs.declared.catalogue.Relation.{Relation}
 
 -- each relation's name, with its position from one on
-abbrev pub numbered : ℕ → List Relation → List (List ℕ × ℕ)
-numbered position [] = []
-numbered position (relation ∷ more) = (relation.name, position) ∷ numbered (position + 1) more
+abbrev pub relation_positions : ℕ → List Relation → List (Bytes × ℕ)
+relation_positions position [] = []
+relation_positions position (relation ∷ more) = (relation.name, position) ∷ relation_positions (position + 1) more

@@ -1,4 +1,5 @@
-pub mod Named
+pub mod Limits
+pub mod Mentions
 pub mod Parts
 pub mod Kinds
 pub mod Directories

@@ -1,44 +1,45 @@
 -- The atoms, the comparisons and the variables of a query as it is written, each in the text's order.
 use Rattle.std.specs.Prelude.{ℕ, List, [], ◌∷◌, ◌++◌, map, flat_map, Option, Some, None}
 use Rattle.std.specs.List.{filter_map}
+use Rattle.med_prelude.specs.Texts.{Bytes}
 use Rattle.query_syntax.specs.declared.syntax.Part.{Part}
 use Rattle.query_syntax.specs.declared.syntax.Part.TheVariants.{Atom, Comparison}
-use Rattle.query_syntax.specs.declared.syntax.PlacedTerm.{PlacedTerm}
+use Rattle.query_syntax.specs.declared.syntax.WrittenTerm.{WrittenTerm}
 use Rattle.query_syntax.specs.declared.syntax.Syntax.{Syntax}
 use Rattle.query_syntax.specs.declared.syntax.Word.{Word}
-use Rattle.query_syntax.specs.declared.syntax.Written.{Written}
-use Rattle.query_syntax.specs.declared.syntax.Written.TheVariants.{Variable, Constant}
+use Rattle.query_syntax.specs.declared.syntax.NamedTerm.{NamedTerm}
+use Rattle.query_syntax.specs.declared.syntax.NamedTerm.TheVariants.{Variable, Constant}
 use Rattle.query_syntax.specs.declared.syntax.WrittenAtom.{WrittenAtom}
 use Rattle.query_syntax.specs.declared.syntax.WrittenComparison.{WrittenComparison}
-use Rattle.query_reader.specs.Named.{firsts_named}
+use Rattle.query_reader.specs.Mentions.{first_mentions}
 
--- a variable's name, and the place where it stands
+-- a variable's name, and the offset where it stands
 abbrev pub Occurrence : Type 0
-Occurrence = List ℕ × ℕ
+Occurrence = Bytes × ℕ
 
-abbrev pub of_word : Word → Occurrence
-of_word word = (word.name, word.at)
+abbrev pub word_occurrence : Word → Occurrence
+word_occurrence word = (word.name, word.at)
 
 -- the name of a variable with what is said of it; nothing for a constant
-abbrev pub named : {V : Type 0} → V → Written → List (List ℕ × V)
-named value (Variable name) = (name, value) ∷ []
-named value (Constant constant) = []
+abbrev pub mentions_of : {V : Type 0} → V → NamedTerm → List (Bytes × V)
+mentions_of value (Variable name) = (name, value) ∷ []
+mentions_of value (Constant constant) = []
 
-abbrev pub term_variables : PlacedTerm → List Occurrence
-term_variables term = named term.at term.written
+abbrev pub term_variables : WrittenTerm → List Occurrence
+term_variables term = mentions_of term.at term.written
 
 abbrev pub atom_variables : WrittenAtom → List Occurrence
 atom_variables atom = flat_map term_variables atom.terms
 
 abbrev pub comparison_variables : WrittenComparison → List Occurrence
-comparison_variables comparison = of_word comparison.left ∷ term_variables comparison.right
+comparison_variables comparison = word_occurrence comparison.left ∷ term_variables comparison.right
 
 abbrev pub part_variables : Part → List Occurrence
 part_variables (Atom atom) = atom_variables atom
 part_variables (Comparison comparison) = comparison_variables comparison
 
 abbrev pub head_variables : Syntax → List Occurrence
-head_variables syntax = map of_word syntax.head
+head_variables syntax = map word_occurrence syntax.head
 
 -- all occurrences of variables, the head's first
 abbrev pub variables_of : Syntax → List Occurrence
@@ -65,5 +66,5 @@ pieces_of syntax = record {
   head = head_variables syntax;
   atoms = filter_map atom_in syntax.parts;
   comparisons = filter_map comparison_in syntax.parts;
-  variables = firsts_named (variables_of syntax);
+  variables = first_mentions (variables_of syntax);
 }

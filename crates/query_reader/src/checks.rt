@@ -1,19 +1,21 @@
 //! The checks of a query that keeps the grammar, but for those of kinds.
 
 ghost use Rattle.std.specs.Prelude.{◌≡◌, nat_le, map, flat_map, IfOk};
-ghost use Rattle.query_reader.specs.Checks.{atom_place, checks_of, comparison_place, is_loose, is_miscounted, limit_places, loose_places, miscounted_places, occurrence_place, past, places_where, unknown_places};
+ghost use Rattle.query_reader.specs.Checks.{atom_offset, checks_of, comparison_offset, is_loose, is_miscounted, limit_offsets, loose_offsets, miscounted_offsets, occurrence_offset, unknown_offsets};
+ghost use Rattle.query_reader.specs.Limits.{longest_head, most_atoms, most_comparisons, most_variables};
 ghost use Rattle.query_reader.specs.Parts.{comparison_variables};
 ghost use Rattle.text_reading.specs.Checks.{first_broken};
+ghost use Rattle.text_reading.specs.Faults.{each_where, first_past};
 ghost use Rattle.text_reading.specs.Order.{least};
 
-use crate::kinds::kind_place;
-use crate::named::{Names, firsts_of};
+use crate::kinds::kind_offset;
+use crate::mentions::{Names, first_mentions};
 use crate::parts::{Occurrence, bound_variables, compared_variables};
 use crate::pieces::Pieces;
 use crate::relations::Directory;
 use query_syntax::{WrittenAtom, WrittenComparison};
 use std::alloc::{AllocError, Global};
-use text_reading::{Broken, lesser_place, told_first};
+use text_reading::{Broken, lesser, told_first};
 
 const MOST_ATOMS: usize = 8;
 
@@ -29,45 +31,45 @@ fn is_miscounted(directory: &Directory<'_>, atom: &WrittenAtom) -> bool
     atom.terms.len() != directory.columns_of(atom).len()
 }
 
-fn unknown_place(directory: &Directory<'_>, atoms: &[&WrittenAtom]) -> Option<u64>
-    ensures { result ≡ least nat_le (unknown_places directory.now (map (λ a. a.now) atoms.now)) }
+fn unknown_offset(directory: &Directory<'_>, atoms: &[&WrittenAtom]) -> Option<u64>
+    ensures { result ≡ least nat_le (unknown_offsets directory.now (map (λ a. a.now) atoms.now)) }
 {
     let mut least = None;
     for atom in atoms {
         if directory.lacks(atom) {
-            least = lesser_place(least, Some(atom.relation.at));
+            least = lesser(least, Some(atom.relation.at));
         }
     }
     least
 }
 
-fn miscounted_place(directory: &Directory<'_>, atoms: &[&WrittenAtom]) -> Option<u64>
-    ensures { result ≡ least nat_le (miscounted_places directory.now (map (λ a. a.now) atoms.now)) }
+fn miscounted_offset(directory: &Directory<'_>, atoms: &[&WrittenAtom]) -> Option<u64>
+    ensures { result ≡ least nat_le (miscounted_offsets directory.now (map (λ a. a.now) atoms.now)) }
 {
     let mut least = None;
     for atom in atoms {
         if is_miscounted(directory, atom) {
-            least = lesser_place(least, Some(atom.relation.at));
+            least = lesser(least, Some(atom.relation.at));
         }
     }
     least
 }
 
-/// The least place of a variable that isn't among those of atoms.
-fn loose_place(bound: &Names<'_, u64>, occurrences: &[Occurrence<'_>]) -> Option<u64>
-    ensures { result ≡ least nat_le (places_where (is_loose bound.now) occurrence_place occurrences.now) }
+/// The least offset of a variable that isn't among those of atoms.
+fn loose_offset(bound: &Names<'_, u64>, occurrences: &[Occurrence<'_>]) -> Option<u64>
+    ensures { result ≡ least nat_le (each_where (is_loose bound.now) occurrence_offset occurrences.now) }
 {
     let mut least = None;
     for occurrence in occurrences {
         if !bound.has(occurrence.name()) {
-            least = lesser_place(least, Some(occurrence.value()));
+            least = lesser(least, Some(occurrence.value()));
         }
     }
     least
 }
 
 fn past_atoms(atoms: &[&WrittenAtom]) -> Option<u64>
-    ensures { result ≡ least nat_le (past 8 atom_place (map (λ a. a.now) atoms.now)) }
+    ensures { result ≡ least nat_le (first_past most_atoms atom_offset (map (λ a. a.now) atoms.now)) }
 {
     match atoms.get(MOST_ATOMS) {
         Some(atom) => Some(atom.relation.at),
@@ -76,7 +78,7 @@ fn past_atoms(atoms: &[&WrittenAtom]) -> Option<u64>
 }
 
 fn past_comparisons(comparisons: &[&WrittenComparison]) -> Option<u64>
-    ensures { result ≡ least nat_le (past 32 comparison_place (map (λ c. c.now) comparisons.now)) }
+    ensures { result ≡ least nat_le (first_past most_comparisons comparison_offset (map (λ c. c.now) comparisons.now)) }
 {
     match comparisons.get(MOST_COMPARISONS) {
         Some(comparison) => Some(comparison.left.at),
@@ -85,13 +87,13 @@ fn past_comparisons(comparisons: &[&WrittenComparison]) -> Option<u64>
 }
 
 fn past_variables(variables: &Names<'_, u64>) -> Option<u64>
-    ensures { result ≡ least nat_le (past 64 occurrence_place variables.now) }
+    ensures { result ≡ least nat_le (first_past most_variables occurrence_offset variables.now) }
 {
     variables.value_at(MOST_VARIABLES)
 }
 
 fn past_head(head: &[Occurrence<'_>]) -> Option<u64>
-    ensures { result ≡ least nat_le (past 64 occurrence_place head.now) }
+    ensures { result ≡ least nat_le (first_past longest_head occurrence_offset head.now) }
 {
     match head.get(LONGEST_HEAD) {
         Some(occurrence) => Some(occurrence.value()),
@@ -99,33 +101,33 @@ fn past_head(head: &[Occurrence<'_>]) -> Option<u64>
     }
 }
 
-/// The least place that is the first past a limit.
+/// The least offset that is the first past a limit.
 #[tactic(auto, using(text_reading::proofs::OrderLaws::least_append))]
-fn limit_place(pieces: &Pieces<'_>) -> Option<u64>
-    ensures { result ≡ least nat_le (limit_places pieces.now) }
+fn limit_offset(pieces: &Pieces<'_>) -> Option<u64>
+    ensures { result ≡ least nat_le (limit_offsets pieces.now) }
 {
-    let place = past_atoms(pieces.atoms());
-    let place = lesser_place(place, past_variables(pieces.variables()));
-    let place = lesser_place(place, past_comparisons(pieces.comparisons()));
-    lesser_place(place, past_head(pieces.head()))
+    let at = past_atoms(pieces.atoms());
+    let at = lesser(at, past_variables(pieces.variables()));
+    let at = lesser(at, past_comparisons(pieces.comparisons()));
+    lesser(at, past_head(pieces.head()))
 }
 
-/// The least place of a head variable, and that of a variable of a comparison, that is in no atom.
-fn loose_places(
+/// The least offset of a head variable, and that of a variable of a comparison, that is in no atom.
+fn loose_offsets(
     alloc: Global,
     pieces: &Pieces<'_>,
 ) -> Result<(Option<u64>, Option<u64>), AllocError>
-    ensures head { IfOk result (λ places. places.0 ≡ least nat_le (loose_places pieces.now.atoms pieces.now.head)) }
-    ensures compared { IfOk result (λ places. places.1 ≡ least nat_le (loose_places pieces.now.atoms (flat_map comparison_variables pieces.now.comparisons))) }
+    ensures head { IfOk result (λ offsets. offsets.0 ≡ least nat_le (loose_offsets pieces.now.atoms pieces.now.head)) }
+    ensures compared { IfOk result (λ offsets. offsets.1 ≡ least nat_le (loose_offsets pieces.now.atoms (flat_map comparison_variables pieces.now.comparisons))) }
 {
     let bound = bound_variables(alloc, pieces.atoms())?;
-    let bound = firsts_of(alloc, bound.as_slice())?;
+    let bound = first_mentions(alloc, bound.as_slice())?;
     let compared = compared_variables(alloc, pieces.comparisons())?;
-    let head = loose_place(&bound, pieces.head());
-    Ok((head, loose_place(&bound, compared.as_slice())))
+    let head = loose_offset(&bound, pieces.head());
+    Ok((head, loose_offset(&bound, compared.as_slice())))
 }
 
-/// The first check that is broken, at the least of its places.
+/// The first check that is broken, at the least of its offsets.
 pub fn first_broken(
     alloc: Global,
     directory: &Directory<'_>,
@@ -134,12 +136,12 @@ pub fn first_broken(
     ensures { IfOk result (λ told. told ≡ first_broken nat_le (checks_of directory.now pieces.now)) }
 {
     let atoms = pieces.atoms();
-    let (head, compared) = loose_places(alloc, pieces)?;
-    let kinds = kind_place(alloc, directory, atoms, pieces.comparisons())?;
-    let told = told_first(7, limit_place(pieces), None);
+    let (head, compared) = loose_offsets(alloc, pieces)?;
+    let kinds = kind_offset(alloc, directory, atoms, pieces.comparisons())?;
+    let told = told_first(7, limit_offset(pieces), None);
     let told = told_first(6, compared, told);
     let told = told_first(5, head, told);
     let told = told_first(4, kinds, told);
-    let told = told_first(3, miscounted_place(directory, atoms), told);
-    Ok(told_first(2, unknown_place(directory, atoms), told))
+    let told = told_first(3, miscounted_offset(directory, atoms), told);
+    Ok(told_first(2, unknown_offset(directory, atoms), told))
 }

@@ -1,54 +1,48 @@
-//! The query that is written so: relations by their positions, variables by their numbers.
+//! The query that is written so: relations by their positions in the catalogue, variables by their numbers.
 
-ghost use Rattle.std.specs.Prelude.{◌≡◌, ◌≤◌, length, map, IfOk};
-ghost use Rattle.query_reader.specs.Reading.{atom_of, comparison_of, term_of, value_of};
-ghost use Rattle.query_reader.specs.Named.{number_named};
+ghost use Rattle.std.specs.Prelude.{◌≡◌, ◌≤◌, ◌<◌, ◌^◌, length, map, IfOk};
+ghost use Rattle.query_reader.specs.Limits.{most_variables};
+ghost use Rattle.query_reader.specs.Reading.{atom_of, comparison_of, query_of_pieces, relation_position, term_of};
+ghost use Rattle.query_reader.specs.Mentions.{number_named};
 
-use crate::named::Names;
+use crate::mentions::Names;
 use crate::parts::Occurrence;
 use crate::pieces::Pieces;
 use crate::relations::Directory;
-use med_prelude::{Listed, Text};
+use med_prelude::Listed;
 use query_core::{Atom, Query};
-use query_syntax::{PlacedTerm, Written, WrittenAtom, WrittenComparison};
+use query_syntax::{NamedTerm, WrittenAtom, WrittenComparison, WrittenTerm};
 use row_match::{Comparison, Term};
 use std::alloc::{AllocError, Global};
-use tuple_core::Value;
-
-fn copied(alloc: Global, value: &Value) -> Result<Value, AllocError>
-    ensures { IfOk result (λ copy. copy ≡ value.now) }
-{
-    match value {
-        Value::Int(number) => Ok(Value::Int(*number)),
-        Value::Text(text) => Ok(Value::Text(Text::from_str(alloc, text.as_str())?)),
-        Value::Bool(truth) => Ok(Value::Bool(*truth)),
-    }
-}
 
 #[tactic(auto, using(crate::proofs::FirstLaws::number_within))]
 fn number_of(variables: &Names<'_, u64>, name: &str) -> u32
-    requires few { length variables.now ≤ 64 }
+    requires few { length variables.now ≤ most_variables }
     ensures { result ≡ number_named variables.now name.now }
 {
     variables.number_of(name) as u32
 }
 
-fn term_of(alloc: Global, variables: &Names<'_, u64>, written: &Written) -> Result<Term, AllocError>
-    requires few { length variables.now ≤ 64 }
+fn term_of(
+    alloc: Global,
+    variables: &Names<'_, u64>,
+    written: &NamedTerm,
+) -> Result<Term, AllocError>
+    requires few { length variables.now ≤ most_variables }
     ensures { IfOk result (λ term. term ≡ term_of variables.now written.now) }
 {
     match written {
-        Written::Variable(name) => Ok(Term::Variable(number_of(variables, name.as_str()))),
-        Written::Constant(constant) => Ok(Term::Constant(copied(alloc, constant)?)),
+        NamedTerm::Variable(name) => Ok(Term::Variable(number_of(variables, name.as_str()))),
+        NamedTerm::Constant(constant) => Ok(Term::Constant(constant.clone()?)),
     }
 }
 
 fn terms_of(
     alloc: Global,
     variables: &Names<'_, u64>,
-    terms: &[PlacedTerm],
+    terms: &[WrittenTerm],
 ) -> Result<Listed<Term>, AllocError>
-    requires few { length variables.now ≤ 64 }
+    requires few { length variables.now ≤ most_variables }
     ensures { IfOk result (λ made. made ≡ map (λ term. term_of variables.now term.written) terms.now) }
 {
     let mut made = Listed::new(alloc);
@@ -58,24 +52,28 @@ fn terms_of(
     Ok(made)
 }
 
-/// A position past 32 bits, which no catalogue has, is answered as want of memory.
+#[tactic(auto, using(crate::proofs::FirstLaws::position_within))]
+fn relation_of(directory: &Directory<'_>, name: &str) -> u32
+    requires few { length directory.now < 2 ^ 32 }
+    ensures { result ≡ relation_position directory.now name.now }
+{
+    directory.position_of(name) as u32
+}
+
 fn atom_of(
     alloc: Global,
     directory: &Directory<'_>,
     variables: &Names<'_, u64>,
     atom: &WrittenAtom,
 ) -> Result<Atom, AllocError>
-    requires few { length variables.now ≤ 64 }
+    requires relations { length directory.now < 2 ^ 32 }
+    requires few { length variables.now ≤ most_variables }
     ensures { IfOk result (λ made. made ≡ atom_of directory.now variables.now atom.now) }
 {
-    let position = directory.number_of(atom.relation.name.as_str());
-    match u32::try_from(position) {
-        Ok(relation) => Ok(Atom {
-            relation,
-            terms: terms_of(alloc, variables, atom.terms.as_slice())?,
-        }),
-        Err(_) => Err(AllocError),
-    }
+    Ok(Atom {
+        relation: relation_of(directory, atom.relation.name.as_str()),
+        terms: terms_of(alloc, variables, atom.terms.as_slice())?,
+    })
 }
 
 fn atoms_of(
@@ -84,7 +82,8 @@ fn atoms_of(
     variables: &Names<'_, u64>,
     atoms: &[&WrittenAtom],
 ) -> Result<Listed<Atom>, AllocError>
-    requires few { length variables.now ≤ 64 }
+    requires relations { length directory.now < 2 ^ 32 }
+    requires few { length variables.now ≤ most_variables }
     ensures { IfOk result (λ made. made ≡ map (atom_of directory.now variables.now) (map (λ a. a.now) atoms.now)) }
 {
     let mut made = Listed::new(alloc);
@@ -99,7 +98,7 @@ fn comparison_of(
     variables: &Names<'_, u64>,
     comparison: &WrittenComparison,
 ) -> Result<Comparison, AllocError>
-    requires few { length variables.now ≤ 64 }
+    requires few { length variables.now ≤ most_variables }
     ensures { IfOk result (λ made. made ≡ comparison_of variables.now comparison.now) }
 {
     Ok(Comparison {
@@ -114,7 +113,7 @@ fn comparisons_of(
     variables: &Names<'_, u64>,
     comparisons: &[&WrittenComparison],
 ) -> Result<Listed<Comparison>, AllocError>
-    requires few { length variables.now ≤ 64 }
+    requires few { length variables.now ≤ most_variables }
     ensures { IfOk result (λ made. made ≡ map (comparison_of variables.now) (map (λ c. c.now) comparisons.now)) }
 {
     let mut made = Listed::new(alloc);
@@ -129,7 +128,7 @@ fn head_of(
     variables: &Names<'_, u64>,
     head: &[Occurrence<'_>],
 ) -> Result<Listed<u32>, AllocError>
-    requires few { length variables.now ≤ 64 }
+    requires few { length variables.now ≤ most_variables }
     ensures { IfOk result (λ made. made ≡ map (λ variable. number_named variables.now variable.0) head.now) }
 {
     let mut made = Listed::new(alloc);
@@ -140,13 +139,14 @@ fn head_of(
 }
 
 /// The query that is written so.
-pub fn value_of(
+pub fn query_of_pieces(
     alloc: Global,
     directory: &Directory<'_>,
     pieces: &Pieces<'_>,
 ) -> Result<Query, AllocError>
-    requires few { length pieces.now.variables ≤ 64 }
-    ensures { IfOk result (λ query. query ≡ value_of directory.now pieces.now) }
+    requires relations { length directory.now < 2 ^ 32 }
+    requires few { length pieces.now.variables ≤ most_variables }
+    ensures { IfOk result (λ query. query ≡ query_of_pieces directory.now pieces.now) }
 {
     let variables = pieces.variables();
     Ok(Query {

@@ -2,14 +2,14 @@
 
 ghost use Rattle.std.specs.Prelude.{◌≡◌, [], ◌∷◌, ◌++◌, map, flat_map, IfOk, OnOk};
 ghost use Rattle.std.specs.List.{filter_map};
-ghost use Rattle.query_reader.specs.Parts.{atom_in, atom_variables, comparison_in, comparison_variables, named, of_word, part_variables, term_variables, variables_of};
+ghost use Rattle.query_reader.specs.Parts.{atom_in, atom_variables, comparison_in, comparison_variables, mentions_of, word_occurrence, part_variables, term_variables, variables_of};
 
-use crate::named::Named;
-use query_syntax::{Part, PlacedTerm, Syntax, Word, Written, WrittenAtom, WrittenComparison};
+use crate::mentions::Mention;
+use query_syntax::{NamedTerm, Part, Syntax, Word, WrittenAtom, WrittenComparison, WrittenTerm};
 use std::alloc::{AllocError, Global};
 
-/// A variable with the place where it stands.
-pub type Occurrence<'a> = Named<'a, u64>;
+/// A variable with the offset where it stands.
+pub type Occurrence<'a> = Mention<'a, u64>;
 
 pub fn atoms_of(alloc: Global, parts: &[Part]) -> Result<Vec<&WrittenAtom>, AllocError>
     ensures { IfOk result (λ atoms. map (λ a. a.now) atoms.items ≡ filter_map atom_in parts.now) }
@@ -38,33 +38,33 @@ pub fn comparisons_of(alloc: Global, parts: &[Part]) -> Result<Vec<&WrittenCompa
 }
 
 /// Puts the name of a variable at the end, with what is said of it.
-pub fn push_named<'a, V: Copy>(
-    all: &mut Vec<Named<'a, V>>,
+pub fn push_mention<'a, V: Copy>(
+    all: &mut Vec<Mention<'a, V>>,
     value: V,
-    written: &'a Written,
+    written: &'a NamedTerm,
 ) -> Result<(), AllocError>
-    ensures { OnOk result (all.new.items ≡ all.old.items ++ named value written.now) }
+    ensures { OnOk result (all.new.items ≡ all.old.items ++ mentions_of value written.now) }
 {
     match written {
-        Written::Variable(name) => Ok(all.push(Named::new(name.as_str(), value))?),
-        Written::Constant(_) => Ok(()),
+        NamedTerm::Variable(name) => Ok(all.push(Mention::new(name.as_str(), value))?),
+        NamedTerm::Constant(_) => Ok(()),
     }
 }
 
 fn push_word<'a>(variables: &mut Vec<Occurrence<'a>>, word: &'a Word) -> Result<(), AllocError>
-    ensures { OnOk result (variables.new.items ≡ variables.old.items ++ of_word word.now ∷ []) }
+    ensures { OnOk result (variables.new.items ≡ variables.old.items ++ word_occurrence word.now ∷ []) }
 {
-    Ok(variables.push(Named::new(word.name.as_str(), word.at))?)
+    Ok(variables.push(Mention::new(word.name.as_str(), word.at))?)
 }
 
 fn push_terms<'a>(
     variables: &mut Vec<Occurrence<'a>>,
-    terms: &'a [PlacedTerm],
+    terms: &'a [WrittenTerm],
 ) -> Result<(), AllocError>
     ensures { OnOk result (variables.new.items ≡ variables.old.items ++ flat_map term_variables terms.now) }
 {
     for term in terms {
-        push_named(variables, term.at, &term.written)?;
+        push_mention(variables, term.at, &term.written)?;
     }
     Ok(())
 }
@@ -76,7 +76,7 @@ fn push_comparison<'a>(
     ensures { OnOk result (variables.new.items ≡ variables.old.items ++ comparison_variables comparison.now) }
 {
     push_word(variables, &comparison.left)?;
-    push_named(variables, comparison.right.at, &comparison.right.written)
+    push_mention(variables, comparison.right.at, &comparison.right.written)
 }
 
 fn push_part<'a>(variables: &mut Vec<Occurrence<'a>>, part: &'a Part) -> Result<(), AllocError>
@@ -90,7 +90,7 @@ fn push_part<'a>(variables: &mut Vec<Occurrence<'a>>, part: &'a Part) -> Result<
 
 /// The head's variables.
 pub fn head_variables(alloc: Global, head: &[Word]) -> Result<Vec<Occurrence<'_>>, AllocError>
-    ensures { IfOk result (λ variables. variables.items ≡ map of_word head.now) }
+    ensures { IfOk result (λ variables. variables.items ≡ map word_occurrence head.now) }
 {
     let mut variables = Vec::new(alloc);
     for word in head {

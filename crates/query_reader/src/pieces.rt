@@ -3,7 +3,7 @@
 ghost use Rattle.std.specs.Prelude.{◌≡◌, map, IfOk};
 ghost use Rattle.query_reader.specs.Parts.{pieces_of};
 
-use crate::named::{Names, firsts_of};
+use crate::mentions::{Names, first_mentions};
 use crate::parts::{Occurrence, atoms_of, comparisons_of, head_variables, variables_of};
 use query_syntax::{Syntax, WrittenAtom, WrittenComparison};
 use std::alloc::{AllocError, Global};
@@ -36,7 +36,7 @@ impl<'a> Pieces<'a> {
             head: head_variables(alloc, syntax.head.as_slice())?,
             atoms: atoms_of(alloc, syntax.parts.as_slice())?,
             comparisons: comparisons_of(alloc, syntax.parts.as_slice())?,
-            variables: firsts_of(alloc, variables.as_slice())?,
+            variables: first_mentions(alloc, variables.as_slice())?,
         })
     }
 

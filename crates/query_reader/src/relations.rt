@@ -3,10 +3,10 @@
 ghost use Rattle.std.specs.Prelude.{◌≡◌, option_map, slice_get, IfOk};
 ghost use Rattle.query_reader.specs.Checks.{is_unknown};
 ghost use Rattle.query_reader.specs.Kinds.{relation_named, columns_of};
-ghost use Rattle.query_reader.specs.Reading.{relation_number};
-ghost use Rattle.query_reader.specs.Directories.{numbered};
+ghost use Rattle.query_reader.specs.Reading.{relation_position};
+ghost use Rattle.query_reader.specs.Directories.{relation_positions};
 
-use crate::named::{Named, Names, firsts_of};
+use crate::mentions::{Mention, Names, first_mentions};
 use cat_reader::{Catalogue, Relation};
 use query_syntax::WrittenAtom;
 use std::alloc::{AllocError, Global};
@@ -23,14 +23,14 @@ pub struct Directory<'a> {
 impl<'a> Model for Directory<'a> {
     ghost use Rattle.std.specs.Prelude.{List, ◌≡◌};
     ghost use Rattle.cat_reader.specs.declared.catalogue.Relation.{Relation as ARelation};
-    ghost use Rattle.query_reader.specs.Directories.{numbered};
-    ghost use Rattle.query_reader.specs.Named.{firsts_named};
+    ghost use Rattle.query_reader.specs.Directories.{relation_positions};
+    ghost use Rattle.query_reader.specs.Mentions.{first_mentions};
 
     ghost Value = { List ARelation };
 
     ghost view = { λ d. d.relations.now };
 
-    ghost invariant = { λ d. d.positions ≡ firsts_named (numbered 0 d.relations.now) };
+    ghost invariant = { λ d. d.positions ≡ first_mentions (relation_positions 0 d.relations.now) };
 }
 
 impl<'a> Directory<'a> {
@@ -38,10 +38,10 @@ impl<'a> Directory<'a> {
         ensures { IfOk result (λ d. d ≡ catalogue.now) }
     {
         let relations = catalogue.as_slice();
-        let numbered = numbered(alloc, relations)?;
+        let positions = relation_positions(alloc, relations)?;
         Ok(Directory {
             relations,
-            positions: firsts_of(alloc, numbered.as_slice())?,
+            positions: first_mentions(alloc, positions.as_slice())?,
         })
     }
 
@@ -74,8 +74,8 @@ impl<'a> Directory<'a> {
     }
 
     /// The position of the relation, or how many there are where it isn't in the catalogue.
-    pub fn number_of(&self, name: &str) -> usize
-        ensures { result ≡ relation_number self.now name.now }
+    pub fn position_of(&self, name: &str) -> usize
+        ensures { result ≡ relation_position self.now name.now }
     {
         match self.positions.value_of(name) {
             Some(position) => position,
@@ -91,12 +91,15 @@ fn relation_at(relations: &[Relation], position: usize) -> Option<&Relation>
 }
 
 /// The name of each relation, with its position.
-fn numbered(alloc: Global, relations: &[Relation]) -> Result<Vec<Named<'_, usize>>, AllocError>
-    ensures { IfOk result (λ names. names.items ≡ numbered 0 relations.now) }
+fn relation_positions(
+    alloc: Global,
+    relations: &[Relation],
+) -> Result<Vec<Mention<'_, usize>>, AllocError>
+    ensures { IfOk result (λ names. names.items ≡ relation_positions 0 relations.now) }
 {
     let mut names = Vec::new(alloc);
     for (position, relation) in relations.iter().enumerate() {
-        names.push(Named::new(relation.name.as_str(), position))?;
+        names.push(Mention::new(relation.name.as_str(), position))?;
     }
     Ok(names)
 }

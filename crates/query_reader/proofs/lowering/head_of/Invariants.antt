@@ -1,5 +1,5 @@
 use Rattle.std.proofs.Common.{◌≡◌, ◌++◌, drop, map}
-use Rattle.query_reader.specs.Named.{number_named}
+use Rattle.query_reader.specs.Mentions.{number_named}
 use Rattle.query_reader.proofs.lowering.head_of.Given as goal
 
 -- those made so far stand before those that are left

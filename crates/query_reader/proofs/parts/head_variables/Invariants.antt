@@ -1,7 +1,7 @@
 use Rattle.std.proofs.Common.{◌≡◌, ◌++◌, drop, map}
-use Rattle.query_reader.specs.Parts.{of_word}
+use Rattle.query_reader.specs.Parts.{word_occurrence}
 use Rattle.query_reader.proofs.parts.head_variables.Given as goal
 
 -- the variables so far stand before those that are left
 abbrev pub invariant-loop-word : goal.invariant-loop-word
-invariant-loop-word l = l.variables.items ++ map of_word (drop l.word-index l.head) ≡ map of_word l.head
+invariant-loop-word l = l.variables.items ++ map word_occurrence (drop l.word-index l.head) ≡ map word_occurrence l.head

@@ -1,7 +1,0 @@
-use Rattle.std.proofs.Common.{ap, ◌∙◌}
-use Rattle.query_reader.specs.Named.{has_name}
-use Rattle.query_reader.proofs.NamedLaws.{name_there}
-use Rattle.query_reader.proofs.named.Names.has.Goals as goal
-
-pub returns : goal.returns
-returns g c = c.contains_key.ensures ∙ name_there c.args.name.now c.self.inside.first.entries ∙ ap (λ names. has_name names c.args.name.now) c.self.view_is
