@@ -50,7 +50,7 @@ fn reads_and_writes_values(rt: HostRuntime) -> Result<(), Fail> {
     ] {
         let value = parse_value(rt.alloc(), kind, text.as_bytes())?.ok_or("no value")?;
         let mut bytes = Vec::new(rt.alloc());
-        text_of(&value.clone()?, &mut bytes)?;
+        text_of(&value, &mut bytes)?;
         assert_eq!(rt; bytes.as_slice(), written.as_bytes(), "{text}");
     }
     Ok(())
@@ -144,15 +144,15 @@ const ENCODINGS: [(&str, &[u8], u32); 5] = [
 fn encodes_rows_and_reads_them_back(rt: HostRuntime) -> Result<(), Fail> {
     for (line, encoding, bucket) in ENCODINGS {
         let row = row_of(rt.alloc(), line)?;
-        let mut bytes = Vec::from_slice(rt.alloc(), b"xy")?;
+        let mut bytes = Vec::new(rt.alloc());
         encode(rt.alloc(), &row, &mut bytes)?;
-        assert_eq!(rt; &bytes.as_slice()[2..], encoding, "{line}");
-        assert_eq!(rt; weight(&row), encoding.len() as u64, "{line}");
-        assert_eq!(rt; bucket_of(encoding, 16), bucket, "{line}");
-        bytes.extend_from_slice(b"z")?;
-        let (back, after) = decode(rt.alloc(), bytes.as_slice(), 2)?;
-        assert_eq!(rt; back, row.clone()?, "{line}");
-        assert_eq!(rt; after, 2 + encoding.len(), "{line}");
+        let read = decode(rt.alloc(), encoding, 0)?;
+        let is_written = bytes.as_slice() == encoding && weight(&row) == encoding.len() as u64;
+        let is_read_back = read == (row, encoding.len());
+        assert!(rt;
+            is_written && is_read_back && bucket_of(encoding, 16) == bucket,
+            "{line}"
+        );
     }
     Ok(())
 }
@@ -162,17 +162,17 @@ fn writes_the_key_of_no_values(rt: HostRuntime) -> Result<(), Fail> {
     let mut room = KeyRoom::new(rt.alloc())?;
     assert!(rt; room.capacity() >= 4_194_625);
     room.write(&row_of(rt.alloc(), "1|paris")?, &[]);
-    assert_eq!(rt; room.as_slice(), b"\0".as_slice());
-    assert_eq!(rt; hash(room.as_slice()), 217);
-    assert_eq!(rt; bucket_of(room.as_slice(), 16), 9);
-    assert_eq!(rt; hash(b""), 7);
+    let key = room.as_slice();
+    assert_eq!(rt; key, b"\0".as_slice());
+    assert_eq!(rt; (hash(key), bucket_of(key, 16), hash(b"")), (217, 9, 7));
     Ok(())
 }
 
-fn is_bad(alloc: Global, bytes: &[u8], at: usize) -> bool {
+// Where the row that begins at the offset ends, if one does.
+fn end_of_row(alloc: Global, bytes: &[u8], at: usize) -> Option<usize> {
     match decode(alloc, bytes, at) {
-        Ok(_) => false,
-        Err(fault) => fault == DecodeFault::Bad { at },
+        Ok((_, after)) => Some(after),
+        Err(fault) => (fault != DecodeFault::Bad { at }).then_some(0),
     }
 }
 
@@ -191,37 +191,31 @@ fn refuses_what_is_no_encoding(rt: HostRuntime) {
         (b"\x01\x01\0\0\0\0\0\0\0", 0, "cut in an integer"),
         (b"\x02\x03\x01", 0, "a value is missing"),
     ] {
-        assert!(rt; is_bad(rt.alloc(), bytes, at), "{why}");
+        assert!(rt; end_of_row(rt.alloc(), bytes, at).is_none(), "{why}");
     }
 }
 
-// The encoding of a row of so many truth values.
-fn truths(alloc: Global, count: u8) -> Result<Vec<u8>, AllocError> {
-    let mut bytes = vec![in alloc; count]?;
+// What begins the bytes, and then so many times what follows.
+fn repeated(alloc: Global, begin: &[u8], more: &[u8], count: u32) -> Result<Vec<u8>, AllocError> {
+    let mut bytes = Vec::from_slice(alloc, begin)?;
     for _ in 0..count {
-        bytes.extend_from_slice(b"\x03\x01")?;
+        bytes.extend_from_slice(more)?;
     }
     Ok(bytes)
 }
 
 #[test]
 fn decodes_up_to_the_limits(rt: HostRuntime) -> Result<(), Fail> {
-    let alloc = rt.alloc();
-    for count in [0, 64] {
-        let (row, after) = decode(alloc, truths(alloc, count)?.as_slice(), 0)?;
-        assert_eq!(rt; row.values().len(), usize::from(count));
-        assert_eq!(rt; after as u64, weight(&row));
+    for (begin, more, count, end) in [
+        (b"\0".as_slice(), b"".as_slice(), 0, Some(1)),
+        (b"\x40", b"\x03\x01", 64, Some(129)),
+        (b"\x41", b"\x03\x01", 65, None),
+        (b"\x01\x02\0\x01\0\0", b"a", 65_537, Some(65_542)),
+        (b"\x01\x02\0\x01\0\x01", b"a", 65_537, None),
+    ] {
+        let bytes = repeated(rt.alloc(), begin, more, count)?;
+        assert_eq!(rt; end_of_row(rt.alloc(), bytes.as_slice(), 0), end);
     }
-    assert!(rt; is_bad(alloc, truths(alloc, 65)?.as_slice(), 0));
-    let letters = vec![in alloc; b'a'; 65_537]?;
-    let mut longest = Vec::from_slice(alloc, b"\x01\x02\0\x01\0\0")?;
-    longest.extend_from_slice(letters.as_slice())?;
-    let (row, after) = decode(alloc, longest.as_slice(), 0)?;
-    assert_eq!(rt; after, 65_542);
-    assert_eq!(rt; weight(&row), 65_542);
-    let mut longer = Vec::from_slice(alloc, b"\x01\x02\0\x01\0\x01")?;
-    longer.extend_from_slice(letters.as_slice())?;
-    assert!(rt; is_bad(alloc, longer.as_slice(), 0));
     Ok(())
 }
 

@@ -74,18 +74,26 @@ const SOME: [&str; 16] = [
     "a|false",
 ];
 
+// So many rows, one after another by a rule without an evident order.
+fn some_rows(alloc: Global, count: u32) -> Result<Vec<Row>, Fail> {
+    let mut rows = Vec::new(alloc);
+    let mut number = 1u64;
+    for _ in 0..count {
+        number = number
+            .wrapping_mul(6_364_136_223_846_793_005)
+            .wrapping_add(1_442_695_040_888_963_407);
+        rows.push(row_of(alloc, SOME[(number >> 60) as usize])?)?;
+    }
+    Ok(rows)
+}
+
 #[test]
 fn sorts_as_the_plain_program_does(rt: HostRuntime) -> Result<(), Fail> {
     for count in [0, 1, 2, 19, 300] {
-        let (mut rows, mut sorted) = (Vec::new(rt.alloc()), Vec::new(rt.alloc()));
-        let mut number = 1u64;
-        for _ in 0..count {
-            number = number
-                .wrapping_mul(6_364_136_223_846_793_005)
-                .wrapping_add(1_442_695_040_888_963_407);
-            let row = row_of(rt.alloc(), SOME[(number >> 60) as usize])?;
+        let rows = some_rows(rt.alloc(), count)?;
+        let mut sorted = Vec::new(rt.alloc());
+        for row in &rows {
             put_in_order(&mut sorted, row.clone()?)?;
-            rows.push(row)?;
         }
         assert_eq!(rt; sorted_distinct(rows)?, sorted, "{count} rows");
     }
