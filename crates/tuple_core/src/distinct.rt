@@ -7,7 +7,7 @@ use crate::ranked::Ranked;
 use crate::row::Row;
 use std::alloc::AllocError;
 
-fn ranked(rows: Vec<Row>) -> Result<Vec<Ranked>, AllocError>
+fn ranked_rows(rows: Vec<Row>) -> Result<Vec<Ranked>, AllocError>
     ensures { IfOk result (λ ranked. ranked.items ≡ rows.items) }
 {
     let mut ranked = Vec::with_capacity(*rows.allocator(), rows.len())?;
@@ -31,7 +31,7 @@ fn rows_of(ranked: Vec<Ranked>) -> Result<Vec<Row>, AllocError>
 pub fn sorted_distinct(rows: Vec<Row>) -> Result<Vec<Row>, AllocError>
     ensures { IfOk result (λ sorted. AreSortedDistinct rows.items sorted.items) }
 {
-    let mut ranked = ranked(rows)?;
+    let mut ranked = ranked_rows(rows)?;
     ranked.sort()?;
     ranked.dedup();
     rows_of(ranked)

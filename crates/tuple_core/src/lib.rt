@@ -30,7 +30,7 @@ mod row;
 #[cfg(test)]
 mod tests;
 mod value;
-mod written;
+mod writing;
 
 pub use columns::{Column, Columns, Kind};
 pub use comparing::{Op, compare, row_order};
@@ -47,7 +47,7 @@ pub use med_prelude::{Listed, Text};
 pub use parsing::{field_value, numeral, parse_value};
 pub use row::{Row, Rows};
 pub use value::Value;
-pub use written::text_of;
+pub use writing::text_of;
 
 /// A list of texts, such as the words of a command line.
 pub type Words = Listed<Text>;

@@ -11,7 +11,7 @@ use med_prelude::Text;
 use std::alloc::{AllocError, Global};
 
 // The number with one more digit, where the byte is one and the number is at most `most`.
-fn extended(number: u64, digit: u8, most: u64) -> Option<u64>
+fn with_digit(number: u64, digit: u8, most: u64) -> Option<u64>
     ensures { result ≡ (if is_ascii_digit digit && nat_le (number * 10 + (digit - 48)) most then Some (number * 10 + (digit - 48)) else None) }
 {
     if !digit.is_ascii_digit() {
@@ -32,14 +32,14 @@ pub fn numeral(digits: &[u8], most: u64) -> Option<u64>
     }
     let mut number = 0u64;
     for digit in digits {
-        number = extended(number, *digit, most)?;
+        number = with_digit(number, *digit, most)?;
     }
     Some(number)
 }
 
 const GREATEST: u64 = i64::MAX as u64;
 
-fn negated(number: u64) -> i64
+fn negative(number: u64) -> i64
     requires { number ≤ 2 ^ 63 }
     ensures { result ≡ neg_ℤ (pos number) }
 {
@@ -57,7 +57,7 @@ fn parse_integer(bytes: &[u8]) -> Option<i64>
         None => None,
         Some((b'-', digits)) => {
             let number = numeral(digits, GREATEST + 1)?;
-            Some(negated(number))
+            Some(negative(number))
         }
         Some(_) => {
             let number = numeral(bytes, GREATEST)?;
