@@ -1,9 +1,9 @@
 -- What an adapter does to the bytes that its reader has left or that its writer holds, where those are known: in
 -- memory they are.
-use Rattle.std.specs.Prelude.{◌≡◌, ⊤, ℕ, List, [], take, Option, Some, None, Result}
+use Rattle.std.specs.Prelude.{◌≡◌, ⊤, ℕ, [], take, Some, None, Result}
 use Rattle.std.specs.Io.KnownBytes.{Appends, Consumes, IsAtEnd}
 use Rattle.med_prelude.specs.Texts.{Bytes, ToldBytes}
-use Rattle.med_base.specs.Outside.{bytes_written}
+use Rattle.med_base.specs.Outside.{TakesSomeByte, bytes_written}
 use Rattle.med_base.specs.declared.outside.OutsideFault.{OutsideFault}
 use Rattle.med_base.specs.declared.outside.source.Pull.{Pull}
 use Rattle.med_base.specs.declared.outside.source.Pull.TheVariants as pull
@@ -16,10 +16,10 @@ left_bytes remaining (Open file) = remaining file
 left_bytes remaining AtEnd = Some []
 left_bytes remaining Failed = None
 
--- A pull takes the bytes that it gives, in their order, and tells the end only where none are left. A file never
--- lets anyone wait.
+-- A pull takes the bytes that it gives, in their order, at least one where there is room, and tells the end only
+-- where none are left. A file never lets anyone wait.
 abbrev pub TakesGiven : ToldBytes → ToldBytes → Pull → Bytes → Type 0
-TakesGiven old new (pull.Bytes n) room = Consumes old new (take n room)
+TakesGiven old new (pull.Bytes n) room = Consumes old new (take n room) × TakesSomeByte n room
 TakesGiven old new pull.End room = IsAtEnd old
 TakesGiven old new pull.NotYet room = ⊥
 TakesGiven old new pull.Failed room = ⊤

@@ -1,6 +1,6 @@
 //! An opener whose locations are paths of files, and the sources that it gives.
 
-ghost use Rattle.std.specs.Prelude.{◌≡◌, ◌+◌, ◌≤◌, [], None, IfOk};
+ghost use Rattle.std.specs.Prelude.{◌≡◌, ◌+◌, ◌<◌, ◌≤◌, [], length, None, IfOk};
 ghost use Rattle.med_prelude.specs.Counts.{Rose};
 ghost use Rattle.med_base.specs.Outside.{FitsRoom, IfPullFailed, CountsWait, bytes_count, dry_after};
 ghost use Rattle.real_outside.specs.Known.{ClosesAtLast, TakesGiven, left_bytes};
@@ -28,8 +28,9 @@ pub enum Handle<F> {
 }
 
 impl<F: Read + Drop> Handle<F> {
-    /// The next bytes, in a room that isn't empty. The file is closed at its end, and where a read fails.
+    /// The next bytes. The file is closed at its end, and where a read fails.
     fn read(&mut self, room: &mut [u8]) -> Pull
+        requires { 0 < length room.old }
         ensures fits { FitsRoom result room.new }
         ensures taken { TakesGiven (left_bytes F.remaining self.old) (left_bytes F.remaining self.new) result room.new }
         ensures closed { ClosesAtLast result self.new }
@@ -40,7 +41,7 @@ impl<F: Read + Drop> Handle<F> {
             Handle::Failed => return Pull::Failed,
         };
         match read {
-            Ok(0) if !room.is_empty() => {
+            Ok(0) => {
                 *self = Handle::AtEnd;
                 Pull::End
             }
