@@ -1,11 +1,11 @@
 -- What a framer has given, while more bytes come.
 use Rattle.std.proofs.Common.{◌≡◌, ℕ, ◌∷◌, Bool, false, List, [], ◌++◌, ◌+◌, ◌≤◌, length, drop, slice_range, Option, Some, None, arith, length-drop, refl, sym, ap, ◌∙◌, append_assoc, append-nil}
 use Rattle.csv_frame.specs.Frames.{GoesOn, frames, frames_of, long_from, long_offset, pieces}
-use Rattle.csv_frame.specs.Holding.{GivesFrames, HasGiven, Held, IsAtHand, IsFrame, IsLong, IsTooLong, KeepsLong, span_bytes}
+use Rattle.csv_frame.specs.Holding.{GivesFrames, HasGivenFrames, Held, IsAtHand, IsFrame, IsLong, IsTooLong, KeepsLong, span_bytes}
 use Rattle.csv_frame.specs.declared.find.Span.{Span}
 
 pub fed_more : (old new : Held) (piece : List ℕ) → new.rest ≡ old.rest ++ piece → new.at ≡ old.at → old.ended ≡ false
-    → (fed : List ℕ) (given : List (Option (List ℕ))) → HasGiven fed given old → HasGiven (fed ++ piece) given new
+    → (fed : List ℕ) (given : List (Option (List ℕ))) → HasGivenFrames fed given old → HasGivenFrames (fed ++ piece) given new
 fed_more old new piece e at unclosed fed given h =
     let going : (more : List ℕ) (ended : Bool) → GoesOn old.ended (piece ++ more) ended = λ more ended t. (cc, cc) in
     let rest : (more : List ℕ) → old.rest ++ (piece ++ more) ≡ new.rest ++ more = λ more. sym (append_assoc old.rest piece more) ∙ ap (λ (bs : List ℕ). bs ++ more) (sym e) in
@@ -53,7 +53,7 @@ long_on old mid new a b same more ended goes = a more ended goes ∙ b more ende
 
 -- what was given and where a long frame begins, after a step
 pub given_on : (old new : Held) (given step : List (Option (List ℕ))) (fed : List ℕ) → GivesFrames old step new → KeepsLong old new → new.ended ≡ old.ended
-    → HasGiven fed given old → HasGiven fed (given ++ step) new
+    → HasGivenFrames fed given old → HasGivenFrames fed (given ++ step) new
 given_on old new given step fed gives keeps same h =
     let going : (more : List ℕ) (ended : Bool) → GoesOn new.ended more ended → GoesOn old.ended more ended = λ more ended goes t. goes (same ∙ t) in
     record {
@@ -70,7 +70,7 @@ passed_long old mid new span count keeps h same rest at more ended goes =
     ∙ ap (λ (bs : List ℕ). long_from (mid.at + count) (pieces (bs ++ more) ended)) (sym rest) ∙ ap (λ (n : ℕ). long_from n (pieces (new.rest ++ more) ended)) (sym at)
 
 -- the offset that is told of a frame that is too long is the one in the text
-pub long_told : (old new : Held) (at : ℕ) → KeepsLong old new → IsLong new at → (fed : List ℕ) (given : List (Option (List ℕ))) → HasGiven fed given old
+pub long_told : (old new : Held) (at : ℕ) → KeepsLong old new → IsLong new at → (fed : List ℕ) (given : List (Option (List ℕ))) → HasGivenFrames fed given old
     → (more : List ℕ) (ended : Bool) → GoesOn old.ended more ended → long_offset (fed ++ more) ended ≡ Some at
 long_told old new at keeps long fed given h more ended goes =
     h.offset more ended goes ∙ keeps more ended goes ∙ ap (long_from new.at) (long.long.1 more ended) ∙ ap Some (sym long.offset)

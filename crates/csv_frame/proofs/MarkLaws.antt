@@ -10,11 +10,11 @@ marked (a ∷ []) e = cc
 marked (a ∷ b ∷ []) e = cc
 marked (a ∷ b ∷ c ∷ bytes) e = (omega arith, rw e refl)
 
-pub mark_dropped : (frame : List ℕ) (place : ℕ) → place ≤ length frame → begins_with_mark (drop place frame) ≡ true
-    → (place + 3 ≤ length frame) × (without_marks (drop (place + 3) frame) ≡ without_marks (drop place frame))
-mark_dropped frame place h e =
-    let m = marked (drop place frame) e in
-    (omega (arith, length-drop place frame, m.0), rw (← drop-drop 3 place frame) m.1)
+pub mark_dropped : (frame : List ℕ) (at : ℕ) → at ≤ length frame → begins_with_mark (drop at frame) ≡ true
+    → (at + 3 ≤ length frame) × (without_marks (drop (at + 3) frame) ≡ without_marks (drop at frame))
+mark_dropped frame at h e =
+    let m = marked (drop at frame) e in
+    (omega (arith, length-drop at frame, m.0), rw (← drop-drop 3 at frame) m.1)
 
 pub unmarked : (bytes : List ℕ) → begins_with_mark bytes ≡ false → without_marks bytes ≡ bytes
 unmarked [] e = refl

@@ -91,7 +91,7 @@ frame_of held step.NotWhole = []
 frame_of held (step.TooLong at) = []
 
 -- Of all bytes that were fed these frames were given, and those of the rest come next, however the text goes on.
-pub record HasGiven (fed : Bytes) (given : List (Option Bytes)) (held : Held) : Type 0 where
+pub record HasGivenFrames (fed : Bytes) (given : List (Option Bytes)) (held : Held) : Type 0 where
   pub gives : (more : Bytes) (ended : Bool) → GoesOn held.ended more ended → frames (fed ++ more) ended ≡ given ++ frames (held.rest ++ more) ended
   pub offset : (more : Bytes) (ended : Bool) → GoesOn held.ended more ended → long_offset (fed ++ more) ended ≡ long_from held.at (pieces (held.rest ++ more) ended)
 

@@ -2,7 +2,7 @@
 
 ghost use Rattle.std.specs.Prelude.{◌≡◌, ◌+◌, ◌≤◌, ◌^◌, false, true, List, [], ◌++◌, length, drop, Option, is_ok, OnOk, if◌then◌else◌};
 ghost use Rattle.med_prelude.specs.Texts.{Bytes};
-ghost use Rattle.csv_frame.specs.Holding.{HasGiven, IsGood, KeepsLong, PeeksFrame, StepsFrame, TellsLong, frame_of, span_bytes};
+ghost use Rattle.csv_frame.specs.Holding.{HasGivenFrames, IsGood, KeepsLong, PeeksFrame, StepsFrame, TellsLong, frame_of, span_bytes};
 
 use crate::cuts::Scan;
 use crate::find::{Cursor, FrameStep, Peek, Span, find_frame};
@@ -35,7 +35,7 @@ impl Framer {
     /// A framer of the empty text.
     pub fn new(alloc: Global) -> Self
         ensures empty { result ≡ record { bytes = []; rest = []; at = 0; ended = false } }
-        ensures gave { HasGiven [] [] result }
+        ensures gave { HasGivenFrames [] [] result }
     {
         Framer {
             buffer: Vec::new(alloc),
@@ -55,7 +55,7 @@ impl Framer {
         ensures rest { self.new.rest ≡ (if is_ok result then self.old.rest ++ piece.now else self.old.rest) }
         ensures at { self.new.at ≡ self.old.at }
         ensures ended { self.new.ended ≡ self.old.ended }
-        ensures gave { OnOk result ((fed : Bytes) (given : List (Option Bytes)) → HasGiven fed given self.old → HasGiven (fed ++ piece.now) given self.new) }
+        ensures gave { OnOk result ((fed : Bytes) (given : List (Option Bytes)) → HasGivenFrames fed given self.old → HasGivenFrames (fed ++ piece.now) given self.new) }
     {
         self.compact();
         self.buffer.extend_from_slice(piece)?;
@@ -79,7 +79,7 @@ impl Framer {
     /// Tells the text's end.
     pub fn finish(&mut self)
         ensures told { self.new ≡ record self.old { ended = true } }
-        ensures gave { (fed : Bytes) (given : List (Option Bytes)) → HasGiven fed given self.old → HasGiven fed given self.new }
+        ensures gave { (fed : Bytes) (given : List (Option Bytes)) → HasGivenFrames fed given self.old → HasGivenFrames fed given self.new }
     {
         self.ended = true;
     }
@@ -97,8 +97,8 @@ impl Framer {
         ensures bytes { self.new.bytes ≡ self.old.bytes }
         ensures at { self.new.at + length self.new.rest ≡ self.old.at + length self.old.rest }
         ensures ended { self.new.ended ≡ self.old.ended }
-        ensures gave { (fed : Bytes) (given : List (Option Bytes)) → HasGiven fed given self.old → HasGiven fed (given ++ frame_of self.new result) self.new }
-        ensures long { (fed : Bytes) (given : List (Option Bytes)) → HasGiven fed given self.old → TellsLong fed self.old.ended result }
+        ensures gave { (fed : Bytes) (given : List (Option Bytes)) → HasGivenFrames fed given self.old → HasGivenFrames fed (given ++ frame_of self.new result) self.new }
+        ensures long { (fed : Bytes) (given : List (Option Bytes)) → HasGivenFrames fed given self.old → TellsLong fed self.old.ended result }
     {
         match self.peek() {
             Peek::Frame { span, count } => {

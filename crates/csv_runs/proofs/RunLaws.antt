@@ -11,7 +11,7 @@ use Rattle.csv_frame.specs.Scanning.{ends_piece, quoted_after, scanned_after, sc
 use Rattle.csv_frame.proofs.PieceLaws.{frames_are}
 use Rattle.csv_runs.specs.Records.{good_record}
 use Rattle.csv_runs.specs.Runs.{after_open, is_quoted, is_run, mode_after, run_from}
-use Rattle.csv_runs.specs.RunReading.{AtRun, from_frame}
+use Rattle.csv_runs.specs.RunReading.{ReadsAsRun, from_frame}
 use Rattle.csv_runs.specs.declared.runs.Mode.{Mode}
 use Rattle.csv_runs.specs.declared.runs.Mode.TheVariants as mode
 use Rattle.csv_runs.proofs.LineLaws.{and_true, first_byte, line_from, line_read, return_ends, some_mode}
@@ -172,7 +172,7 @@ pub record NextFrame (run : List ℕ) : Type 0 where
   pub splits : scanned_frames run true ≡ Some frame ∷ scanned_frames (from_frame to left) true
   pub good : good_record frame ≡ Some fields
   pub reads : next_record default_config state.StartRecord [] [] run ≡ Some (fields, to, left)
-  pub at : AtRun to left
+  pub at : ReadsAsRun to left
 
 pub record NoFrame (run : List ℕ) : Type 0 where
   pub none : scanned_frames run true ≡ []
@@ -230,7 +230,7 @@ pub next_of : (run : List ℕ) → is_run run ≡ true → NextFrame run ⊎ NoF
 next_of run is = next_within (length run) run (omega arith) is
 
 -- what a run's frames are, whatever comes after it
-pub record Apart (run more : List ℕ) (ended : Bool) : Type 0 where
+pub record StandsApart (run more : List ℕ) (ended : Bool) : Type 0 where
   pub of_cuts : scanned_pieces (run ++ more) ended ≡ scanned_pieces run true ++ scanned_pieces more ended
   pub of_frames : scanned_frames (run ++ more) ended ≡ scanned_frames run true ++ scanned_frames more ended
 
@@ -240,13 +240,13 @@ kept_apart line whole front back e = elim (is_blank (without_marks line)) as (λ
   | false ↦ λ full. rw full (ap (λ fs. Some (without_marks line) ∷ fs) e)
 ] refl
 
-line_apart : (line rest run more : List ℕ) (ended : Bool) → scanned_pieces (run ++ more) ended ≡ Some line ∷ scanned_pieces (rest ++ more) ended → scanned_pieces run true ≡ Some line ∷ scanned_pieces rest true → Apart rest more ended → Apart run more ended
+line_apart : (line rest run more : List ℕ) (ended : Bool) → scanned_pieces (run ++ more) ended ≡ Some line ∷ scanned_pieces (rest ++ more) ended → scanned_pieces run true ≡ Some line ∷ scanned_pieces rest true → StandsApart rest more ended → StandsApart run more ended
 line_apart line rest run more ended whole cut after = record {
   of_cuts = rw (whole, cut) (ap (λ fs. Some line ∷ fs) after.of_cuts);
   of_frames = rw (whole, cut) (kept_apart line (scanned_pieces (rest ++ more) ended) (scanned_pieces rest true) (scanned_frames more ended) after.of_frames);
 }
 
-apart_within : (n : ℕ) (run more : List ℕ) (ended : Bool) → length run ≤ n → is_run run ≡ true → Apart run more ended
+apart_within : (n : ℕ) (run more : List ℕ) (ended : Bool) → length run ≤ n → is_run run ≡ true → StandsApart run more ended
 apart_within n [] more ended h is = record { of_cuts = refl; of_frames = refl }
 apart_within zero (b ∷ bytes) more ended h is = absurd (omega arith)
 apart_within (suc n) (b ∷ bytes) more ended h is =
@@ -254,7 +254,7 @@ apart_within (suc n) (b ∷ bytes) more ended h is =
     let shorter : length first.rest ≤ n = omega (arith, ap length first.is, length-append first.line (10 ∷ first.rest)) in
     line_apart first.line first.rest (b ∷ bytes) more ended (first.cut more ended) (cut_first b bytes first) (apart_within n first.rest more ended shorter first.rest_is)
 
-pub run_apart : (run more : List ℕ) (ended : Bool) → is_run run ≡ true → Apart run more ended
+pub run_apart : (run more : List ℕ) (ended : Bool) → is_run run ≡ true → StandsApart run more ended
 run_apart run more ended is = apart_within (length run) run more ended (omega arith) is
 
 -- a text that begins with a run

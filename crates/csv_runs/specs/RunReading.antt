@@ -15,8 +15,8 @@ use Rattle.std.proofs.Common.{Bor}
 abbrev pub ByteReader : Type 0
 ByteReader = Reader (Bor Bytes)
 
-abbrev pub unread : ByteReader → Option Bytes
-unread reader = source_of (λ bytes. Some bytes.now) reader
+abbrev pub unread_bytes : ByteReader → Option Bytes
+unread_bytes reader = source_of (λ bytes. Some bytes.now) reader
 
 abbrev pub is_after_return : State → Bool
 is_after_return state.AfterCr = true
@@ -37,10 +37,10 @@ frames_from reached None = []
 frames_from reached (Some bytes) = frames (from_frame reached bytes) true
 
 abbrev pub unread_frames : Bool → ByteReader → List (Option Bytes)
-unread_frames goes_on reader = if goes_on then frames_from (reader_state reader) (unread reader) else []
+unread_frames goes_on reader = if goes_on then frames_from (reader_state reader) (unread_bytes reader) else []
 
 -- bytes that read, from this state, as a run from its start
-pub record AtRun (reached : State) (bytes : Bytes) : Type 0 where
+pub record ReadsAsRun (reached : State) (bytes : Bytes) : Type 0 where
   pub run : is_run (from_frame reached bytes) ≡ true
   pub same : next_record default_config reached [] [] bytes ≡ next_record default_config state.StartRecord [] [] (from_frame reached bytes)
 
@@ -49,11 +49,11 @@ pub record IsSetUp (reader : ByteReader) (bytes : Bytes) : Type 0 where
   pub trim : reader_trim reader ≡ trim.None
   pub ready : Ready reader
   pub flexible : is_flexible reader ≡ true
-  pub at : AtRun (reader_state reader) bytes
+  pub at : ReadsAsRun (reader_state reader) bytes
 
 -- a reader that stands in a run, before one of its frames
 abbrev pub ReadsRun : ByteReader → Type 0
-ReadsRun reader = MatchOption (unread reader) ⊥ (IsSetUp reader)
+ReadsRun reader = MatchOption (unread_bytes reader) ⊥ (IsSetUp reader)
 
 -- the fields are the record of the first frame that was left, and the others are left now; or none was left and none is
 abbrev pub GivesNext : Bool → List (Option Bytes) → List (Option Bytes) → List Bytes → Type 0

@@ -9,7 +9,7 @@ use Rattle.csv_frame.specs.Holding.{GivesFrames, Held, HoldsNone, IsAtHand, IsTo
 use Rattle.csv_frame.specs.declared.find.Span.{Span}
 use Rattle.csv_frame.proofs.PieceLaws.{frames_are}
 use Rattle.csv_wrap.specs.Rows.{frame_read, frame_reads, rows_before_fault}
-use Rattle.csv_wrap.specs.Readings.{Reading, before, read_frames, read_then, reading_of}
+use Rattle.csv_wrap.specs.Readings.{Reading, rows_then, read_frames, read_then, reading_of}
 use Rattle.csv_wrap.proofs.RowLaws.{fill_both, reads_step, rows_fill}
 use Rattle.csv_wrap.specs.Ahead.{Ahead, FillColumns, KeepsFuture, ReadsFrames, unless_bad, HoldsNothing, future}
 use Rattle.csv_wrap.specs.declared.frame_rows.FrameRead.{FrameRead}
@@ -43,11 +43,11 @@ frames_kept read old new count reads splits good same inside counted rest at tol
   counted = counted;
   wide = λ h. subst (λ (cs : List Column). FillColumns cs new.rows) (sym same) (reads_fill read old.columns old.rows new.rows old.number new.number new.bad reads h);
   same = λ more ended goes.
-      ap (λ (b : Option MemberFault). before old.rows (unless_bad b (read_frames old.number old.columns (frames (old.framed.rest ++ more) ended) ended))) good
-      ∙ ap (λ (fs : List (Option (List ℕ))). before old.rows (read_frames old.number old.columns fs ended)) (splits more ended goes)
+      ap (λ (b : Option MemberFault). rows_then old.rows (unless_bad b (read_frames old.number old.columns (frames (old.framed.rest ++ more) ended) ended))) good
+      ∙ ap (λ (fs : List (Option (List ℕ))). rows_then old.rows (read_frames old.number old.columns fs ended)) (splits more ended goes)
       ∙ reads (frames (drop count old.framed.rest ++ more) ended) ended
-      ∙ ap (λ (cs : List Column). before new.rows (unless_bad new.bad (read_frames new.number cs (frames (drop count old.framed.rest ++ more) ended) ended))) (sym same)
-      ∙ ap (λ (bs : List ℕ). before new.rows (unless_bad new.bad (read_frames new.number new.columns (frames (bs ++ more) ended) ended))) (sym rest);
+      ∙ ap (λ (cs : List Column). rows_then new.rows (unless_bad new.bad (read_frames new.number cs (frames (drop count old.framed.rest ++ more) ended) ended))) (sym same)
+      ∙ ap (λ (bs : List ℕ). rows_then new.rows (unless_bad new.bad (read_frames new.number new.columns (frames (bs ++ more) ended) ended))) (sym rest);
 }
 
 -- rows that are as before
@@ -58,7 +58,7 @@ rows_kept old rows e = record {
   bytes = refl;
   counted = rw e (omega arith);
   wide = λ h. subst (λ (rs : List (List Value)). FillColumns old.columns rs) (sym e) h;
-  same = λ more ended goes. ap (λ (rs : List (List Value)). before rs (unless_bad old.bad (read_frames old.number old.columns (frames (old.framed.rest ++ more) ended) ended))) (sym e);
+  same = λ more ended goes. ap (λ (rs : List (List Value)). rows_then rs (unless_bad old.bad (read_frames old.number old.columns (frames (old.framed.rest ++ more) ended) ended))) (sym e);
 }
 
 pub frames_none : (ended : Bool) → frames [] ended ≡ []
@@ -85,10 +85,10 @@ none_stays old new gives ended none =
 -- what one frame gave
 pub frame_put : (columns : List Column) (frame : List ℕ) (old rows : List (List Value)) (number : ℕ) (read : FrameRead) (bad : Option MemberFault)
     → read ≡ frame_read columns number (Some frame)
-    → ((more : Reading) → before old (read_then read more) ≡ before rows (unless_bad bad more))
+    → ((more : Reading) → rows_then old (read_then read more) ≡ rows_then rows (unless_bad bad more))
     → ReadsFrames columns (Some frame ∷ []) old number rows bad (number + 1)
 frame_put columns frame old rows number read bad is put later ended =
-    ap (before old) (reads_step number columns (Some frame) later ended read is) ∙ put (read_frames (number + 1) columns later ended)
+    ap (rows_then old) (reads_step number columns (Some frame) later ended read is) ∙ put (read_frames (number + 1) columns later ended)
 
 -- one step after the other
 pub kept_on : (old mid new : Ahead) → KeepsFuture old mid → KeepsFuture mid new → KeepsFuture old new
@@ -115,7 +115,7 @@ none_read old new keeps h =
     let ended = old.framed.ended in
     let none : frames (old.framed.rest ++ []) ended ≡ [] = ap (λ (bs : List ℕ). frames bs ended) (append-nil old.framed.rest) ∙ h.frames in
     let was : (future old [] ended).rows ≡ [] =
-    ap (λ (rs : List (List Value)). (before rs (unless_bad old.bad (read_frames old.number old.columns (frames (old.framed.rest ++ []) ended) ended))).rows) h.rows
+    ap (λ (rs : List (List Value)). (rows_then rs (unless_bad old.bad (read_frames old.number old.columns (frames (old.framed.rest ++ []) ended) ended))).rows) h.rows
     ∙ ap (λ (b : Option MemberFault). (unless_bad b (read_frames old.number old.columns (frames (old.framed.rest ++ []) ended) ended)).rows) h.bad
     ∙ ap (λ (fs : List (Option (List ℕ))). (read_frames old.number old.columns fs ended).rows) none ∙ no_rows old.number old.columns ended in
     let is = sym (ap (λ (r : Reading). r.rows) (keeps.same [] ended (λ t. (refl, t)))) ∙ was in

@@ -1,4 +1,4 @@
--- A record's fields by place, beside the list of its fields.
+-- A record's fields by position, beside the list of its fields.
 use Rattle.std.proofs.Common.{◌≡◌, ℕ, zero, suc, ◌+◌, ◌<◌, List, [], ◌∷◌, length, drop, Some, None, arith, refl, add-one}
 use Rattle.csv.specs.Records.{field_at}
 

@@ -14,7 +14,7 @@ use Rattle.tuple_core.specs.declared.value.Value.{Value}
 use Rattle.tuple_core.specs.Parsing.{field_value}
 use Rattle.csv_runs.specs.Records.{good_record}
 use Rattle.csv_wrap.specs.Rows.{frame_read, frame_reads, is_header, named_count, record_read, rows_before_fault, values_from, values_of, values_read}
-use Rattle.csv_wrap.specs.Readings.{Reading, before, read_frames, read_then, reading_of}
+use Rattle.csv_wrap.specs.Readings.{Reading, rows_then, read_frames, read_then, reading_of}
 use Rattle.csv_wrap.specs.Ahead.{FillColumns, unless_bad}
 use Rattle.csv_wrap.specs.declared.frame_rows.FrameRead.{FrameRead}
 use Rattle.csv_wrap.specs.declared.frame_rows.FrameRead.TheVariants as read
@@ -49,10 +49,10 @@ named_short [] fields e = refl
 named_short (column ∷ columns) fields e = rw e refl
 
 -- rows before rows, and before a fault
-pub before_twice : (front rows : List (List Value)) (more : Reading) → before front (before rows more) ≡ before (front ++ rows) more
+pub before_twice : (front rows : List (List Value)) (more : Reading) → rows_then front (rows_then rows more) ≡ rows_then (front ++ rows) more
 before_twice front rows more = ap (λ (rs : List (List Value)). record { rows = rs; verdict = more.verdict }) (sym (append_assoc front rows more.rows))
 
-pub before_fault : (front : List (List Value)) (why : Option MemberFault) → before front (record { rows = []; verdict = why }) ≡ record { rows = front; verdict = why }
+pub before_fault : (front : List (List Value)) (why : Option MemberFault) → rows_then front (record { rows = []; verdict = why }) ≡ record { rows = front; verdict = why }
 before_fault front why = ap (λ (rs : List (List Value)). record { rows = rs; verdict = why }) (append-nil front)
 
 -- what one frame gave, and then what comes after it
@@ -70,9 +70,9 @@ reads_step number columns frame later ended first e =
 pub frame_read_on : (front : List (List Value)) (number : ℕ) (columns : List Column) (frame : List ℕ) (left after : List (Option (List ℕ))) (ended : Bool) (first : FrameRead)
     → left ≡ Some frame ∷ after
     → first ≡ frame_read columns number (Some frame)
-    → before front (read_frames number columns left ended) ≡ before front (read_then first (read_frames (number + 1) columns after ended))
+    → rows_then front (read_frames number columns left ended) ≡ rows_then front (read_then first (read_frames (number + 1) columns after ended))
 frame_read_on front number columns frame left after ended first e is =
-    ap (λ (fs : List (Option (List ℕ))). before front (read_frames number columns fs ended)) e ∙ ap (before front) (reads_step number columns (Some frame) after ended first is)
+    ap (λ (fs : List (Option (List ℕ))). rows_then front (read_frames number columns fs ended)) e ∙ ap (rows_then front) (reads_step number columns (Some frame) after ended first is)
 
 each_more : (first : Result Value ℕ) (rest : Result (List Value) ℕ) (values : List Value) (n : ℕ) → (first >>= (λ x. with_front (x ∷ []) rest)) ≡ Ok values
     → ((later : List Value) → rest ≡ Ok later → length later ≡ n) → length values ≡ suc n
@@ -131,12 +131,12 @@ fill_both columns (row ∷ front) rows a b = (a.0, fill_both columns front rows 
 pub record_put : (columns : List Column) (fields : List (List ℕ)) (left after : List (Option (List ℕ))) (old rows : List (List Value)) (number : ℕ) (first : FrameRead) (bad : Option MemberFault)
     → (frame : List ℕ) × (left ≡ Some frame ∷ after) × (good_record frame ≡ Some fields)
     → first ≡ record_read columns number (Some fields)
-    → ((more : Reading) → before old (read_then first more) ≡ before rows (unless_bad bad more))
+    → ((more : Reading) → rows_then old (read_then first more) ≡ rows_then rows (unless_bad bad more))
     → (later : List (Option (List ℕ))) (ended : Bool)
-    → before old (read_frames number columns (left ++ later) ended) ≡ before rows (unless_bad bad (read_frames (number + 1) columns (after ++ later) ended))
+    → rows_then old (read_frames number columns (left ++ later) ended) ≡ rows_then rows (unless_bad bad (read_frames (number + 1) columns (after ++ later) ended))
 record_put columns fields left after old rows number first bad found is put later ended =
-    ap (λ (fs : List (Option (List ℕ))). before old (read_frames number columns (fs ++ later) ended)) found.1
-    ∙ ap (before old) (reads_step number columns (Some found.0) (after ++ later) ended first (is ∙ ap (record_read columns number) (sym found.2)))
+    ap (λ (fs : List (Option (List ℕ))). rows_then old (read_frames number columns (fs ++ later) ended)) found.1
+    ∙ ap (rows_then old) (reads_step number columns (Some found.0) (after ++ later) ended first (is ∙ ap (record_read columns number) (sym found.2)))
     ∙ put (read_frames (number + 1) columns (after ++ later) ended)
 
 -- the first rows stay in front where more come behind

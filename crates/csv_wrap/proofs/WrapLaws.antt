@@ -12,13 +12,16 @@ use Rattle.tuple_core.specs.declared.columns.Column.{Column}
 use Rattle.tuple_core.specs.declared.value.Value.{Value}
 use Rattle.csv_frame.specs.Frames.{frames}
 use Rattle.csv_wrap.specs.Rows.{source_rows, source_verdict}
-use Rattle.csv_wrap.specs.Readings.{Reading, before, clean, fails, read_frames, source_reading}
+use Rattle.csv_wrap.specs.Readings.{Reading, rows_then, clean_reading, failed_reading, read_frames, source_reading}
 use Rattle.csv_wrap.specs.Sound.{FailedByBytes, FailedByRead, IsOfBytes, IsSoundEnd, IsSoundSoFar, is_all, taken_rows}
 use Rattle.csv_wrap.proofs.VerdictLaws.{bad_kept, not_read}
 use Rattle.csv_wrap.specs.Ahead.{Ahead, HoldsNothing, IsReadAhead, KeepsFuture, fault_behind, future, unless_bad}
 use Rattle.med_prelude.specs.Counts.{Rose}
 use Rattle.csv_wrap.specs.declared.wrapper.Pulled.{Pulled}
 use Rattle.csv_wrap.specs.declared.wrapper.Pulled.TheVariants as pulled
+use Rattle.med_base.specs.declared.outside.source.Pull.{Pull}
+use Rattle.csv_wrap.specs.Pulls.{AnswersOnePull, AnswersPull, ComesOfOnePull, IsOnePull, TellsEnd}
+use Rattle.csv_wrap.specs.declared.wrapper.Came.TheVariants as came
 use Rattle.csv_wrap.specs.Wrapped.{AcceptedAs, Continues, IsEnd, IsFault, IsPulled, IsWrapped, SoundAs, Wrapped, fault_of}
 
 -- nothing is given of a source of which nothing was taken
@@ -34,7 +37,7 @@ all_itself whole bytes e = rw e ((bytes_decides bytes bytes).1 refl)
 
 -- what is given and to be given, where nothing follows
 now_read : {S : Type 0} (w : Wrapped S) (bytes : List ℕ) (given : List (List Value)) (ended : Bool) → Continues w bytes given → (w.ahead.framed.ended ≡ true → ended ≡ true)
-    → source_reading w.ahead.columns bytes ended ≡ before given (future w.ahead (w.kept ++ []) ended)
+    → source_reading w.ahead.columns bytes ended ≡ rows_then given (future w.ahead (w.kept ++ []) ended)
 now_read w bytes given ended h told =
     ap (λ (bs : List ℕ). source_reading w.ahead.columns bs ended) (sym (append-nil bytes)) ∙ h [] ended (λ t. (refl, told t))
 
@@ -56,18 +59,18 @@ sound_so_far w (Some bytes) whole given all count h =
     omega (arith, count, ap length (rows_is r), length-append given (future w.ahead (w.kept ++ []) e).rows)
 
 -- nothing is still to be given where nothing is held
-none_left : (a : Ahead) (kept : List ℕ) (ended : Bool) → HoldsNothing a → a.framed.ended ≡ ended → kept ≡ [] → (ended && (a.number == 0)) ≡ false → future a (kept ++ []) ended ≡ clean
+none_left : (a : Ahead) (kept : List ℕ) (ended : Bool) → HoldsNothing a → a.framed.ended ≡ ended → kept ≡ [] → (ended && (a.number == 0)) ≡ false → future a (kept ++ []) ended ≡ clean_reading
 none_left a kept ended h told k numbered =
     let none : frames (a.framed.rest ++ (kept ++ [])) ended ≡ [] =
     ap (λ (bs : List ℕ). frames (a.framed.rest ++ (bs ++ [])) ended) k ∙ ap (λ (bs : List ℕ). frames bs ended) (append-nil a.framed.rest) ∙ ap (λ (e : Bool). frames a.framed.rest e) (sym told) ∙ h.frames in
-    ap (λ (rs : List (List Value)). before rs (unless_bad a.bad (read_frames a.number a.columns (frames (a.framed.rest ++ (kept ++ [])) ended) ended))) h.rows
-    ∙ ap (λ (b : Option MemberFault). before [] (unless_bad b (read_frames a.number a.columns (frames (a.framed.rest ++ (kept ++ [])) ended) ended))) h.bad
+    ap (λ (rs : List (List Value)). rows_then rs (unless_bad a.bad (read_frames a.number a.columns (frames (a.framed.rest ++ (kept ++ [])) ended) ended))) h.rows
+    ∙ ap (λ (b : Option MemberFault). rows_then [] (unless_bad b (read_frames a.number a.columns (frames (a.framed.rest ++ (kept ++ [])) ended) ended))) h.bad
     ∙ ap (λ (fs : List (Option (List ℕ))). read_frames a.number a.columns fs ended) none ∙ rw numbered refl
 
-given_clean : (given : List (List Value)) → before given clean ≡ record { rows = given; verdict = None }
+given_clean : (given : List (List Value)) → rows_then given clean_reading ≡ record { rows = given; verdict = None }
 given_clean given = ap (λ (rs : List (List Value)). record { rows = rs; verdict = None }) (append-nil given)
 
-given_bad : (given : List (List Value)) (why : MemberFault) → before given (fails why) ≡ record { rows = given; verdict = Some why }
+given_bad : (given : List (List Value)) (why : MemberFault) → rows_then given (failed_reading why) ≡ record { rows = given; verdict = Some why }
 given_bad given why = ap (λ (rs : List (List Value)). record { rows = rs; verdict = Some why }) (append-nil given)
 
 some_number : (n : ℕ) → 0 < n → (n == 0) ≡ false
@@ -78,14 +81,14 @@ sound_end : {S : Type 0} (w : Wrapped S) (taken whole : Option (List ℕ)) (give
     → w.accepted ≡ length given → IfSome taken (λ bytes. Continues w bytes given) → IsSoundEnd w.ahead.columns taken whole w.accepted
 sound_end w None whole given all told k nothing some count h = (all, tt)
 sound_end w (Some bytes) whole given all told k nothing some count h =
-    let r = now_read w bytes given true h (λ t. refl) ∙ ap (before given) (none_left w.ahead w.kept true nothing told k (some_number w.ahead.number some)) ∙ given_clean given in
+    let r = now_read w bytes given true h (λ t. refl) ∙ ap (rows_then given) (none_left w.ahead w.kept true nothing told k (some_number w.ahead.number some)) ∙ given_clean given in
     (all, (count ∙ sym (ap length (rows_is r)), verdict_is r))
 
 failed_by_read : {S : Type 0} (w : Wrapped S) (taken : Option (List ℕ)) (faults : ℕ) (given : List (List Value)) → 1 ≤ faults → w.ahead.framed.ended ≡ false → w.kept ≡ [] → HoldsNothing w.ahead
     → w.accepted ≡ length given → IfSome taken (λ bytes. Continues w bytes given) → FailedByRead w.ahead.columns taken faults w.accepted fault.Read
 failed_by_read w None faults given some unended k nothing count h = (refl, some, tt)
 failed_by_read w (Some bytes) faults given some unended k nothing count h =
-    let r = now_read w bytes given false h (λ t. absurd (let clash : false ≡ true = sym unended ∙ t in cc)) ∙ ap (before given) (none_left w.ahead w.kept false nothing unended k refl) ∙ given_clean given in
+    let r = now_read w bytes given false h (λ t. absurd (let clash : false ≡ true = sym unended ∙ t in cc)) ∙ ap (rows_then given) (none_left w.ahead w.kept false nothing unended k refl) ∙ given_clean given in
     (refl, some, count ∙ sym (ap length (rows_is r)))
 
 failed_by_bytes : {S : Type 0} (w : Wrapped S) (taken whole : Option (List ℕ)) (given : List (List Value)) (why : MemberFault) → (w.ahead.framed.ended ≡ true → IsWhole taken whole) → w.ahead.rows ≡ [] → w.ahead.bad ≡ Some why → IfSome w.ahead.bad IsOfBytes
@@ -93,8 +96,8 @@ failed_by_bytes : {S : Type 0} (w : Wrapped S) (taken whole : Option (List ℕ))
 failed_by_bytes w None whole given why all rows bad of count h = (of_bytes w.ahead.bad why bad of, tt)
 failed_by_bytes w (Some bytes) whole given why all rows bad of count h =
     let e = is_all whole bytes in
-    let left : future w.ahead (w.kept ++ []) e ≡ fails why = rw (rows, bad) refl in
-    let r = now_read w bytes given e h (λ t. all_itself whole bytes (all t)) ∙ ap (before given) left ∙ given_bad given why in
+    let left : future w.ahead (w.kept ++ []) e ≡ failed_reading why = rw (rows, bad) refl in
+    let r = now_read w bytes given e h (λ t. all_itself whole bytes (all t)) ∙ ap (rows_then given) left ∙ given_bad given why in
     (of_bytes w.ahead.bad why bad of, (count ∙ sym (ap length (rows_is r)), verdict_is r))
 
 pub sound_active : {S M : Type 0} (source : Source S M) (w : Wrapped S) → IsWrapped source w → SoundAs source w state.Active None
@@ -193,3 +196,17 @@ wrapped_on source old new is unfailed keeps = record {
   failed = λ t. absurd (let clash : false ≡ true = sym unfailed ∙ t in cc);
   of_bytes = bad_kept old.ahead new keeps is.of_bytes;
 }
+
+-- what came at the end answers the pull that told it
+pub end_answers : {S : Type 0} (w : Wrapped S) (result : Pulled) (answer : Pull) → IsEnd w result → TellsEnd answer → AnswersPull answer result
+end_answers w pulled.Moved answer is end = inr end
+end_answers w pulled.NotYet answer is end = absurd is
+end_answers w pulled.Ended answer is end = end
+end_answers w (pulled.Failed why) answer is end = inl end
+end_answers w pulled.NoMemory answer is end = absurd is
+
+pub end_of_pull : {S M : Type 0} (source : Source S M) (old mid : S) (w : Wrapped S) (kept : List ℕ) (result : Pulled) → w.source ≡ mid
+    → ComesOfOnePull source old mid kept came.End → IsEnd w result → AnswersOnePull source old w.source result
+end_of_pull {S = S} source old mid w kept result same told is =
+    let P = λ (s : S). IsOnePull source old s told.0 told.1 in
+    (told.0, told.1, subst P (sym same) told.2, end_answers w result told.0 is told.3)

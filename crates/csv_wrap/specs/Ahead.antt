@@ -10,7 +10,7 @@ use Rattle.csv_frame.specs.Holding.{Held, HoldsNone}
 use Rattle.csv_runs.specs.Runs.{is_run}
 use Rattle.csv_wrap.specs.declared.ahead.AtEnd.{AtEnd}
 use Rattle.csv_wrap.specs.declared.ahead.AtEnd.TheVariants as end
-use Rattle.csv_wrap.specs.Readings.{Reading, before, fails, read_frames}
+use Rattle.csv_wrap.specs.Readings.{Reading, rows_then, failed_reading, read_frames}
 
 pub record Ahead : Type 0 where
   pub columns : List Column
@@ -29,12 +29,12 @@ FillColumns columns rows = AllByRecursion (λ row. length row ≡ length columns
 -- what comes next, unless a fault does
 abbrev pub unless_bad : Option MemberFault → Reading → Reading
 unless_bad None more = more
-unless_bad (Some why) more = fails why
+unless_bad (Some why) more = failed_reading why
 
 -- what is still to be given where these bytes follow
 abbrev pub future : Ahead → Bytes → Bool → Reading
 future ahead more ended =
-    before ahead.rows (unless_bad ahead.bad (read_frames ahead.number ahead.columns (frames (ahead.framed.rest ++ more) ended) ended))
+    rows_then ahead.rows (unless_bad ahead.bad (read_frames ahead.number ahead.columns (frames (ahead.framed.rest ++ more) ended) ended))
 
 -- the fault, once no row is left before it
 abbrev pub fault_behind : RowList → Option MemberFault → Option MemberFault
@@ -77,4 +77,4 @@ EndsAt ahead (end.Bad why) = (ahead.rows ≡ []) × (ahead.bad ≡ Some why)
 abbrev pub ReadsFrames : List Column → List (Option Bytes) → RowList → ℕ → RowList → Option MemberFault → ℕ → Type 0
 ReadsFrames columns read old number rows bad next =
     (later : List (Option Bytes)) (ended : Bool)
-    → before old (read_frames number columns (read ++ later) ended) ≡ before rows (unless_bad bad (read_frames next columns later ended))
+    → rows_then old (read_frames number columns (read ++ later) ended) ≡ rows_then rows (unless_bad bad (read_frames next columns later ended))

@@ -1,5 +1,6 @@
 -- What a call that pulls does to its source.
 use Rattle.std.specs.Prelude.{◌≡◌, ⊤, ℕ, ◌+◌, ◌<◌, ◌≤◌, ◌⊎◌, Bool, true, false, List, [], ◌++◌, length, take, Option, Some, None, IsSome}
+use Rattle.med_base.specs.declared.member.MemberFault.TheVariants as fault
 use Rattle.med_base.specs.declared.outside.source.Source.{Ghosts as Source}
 use Rattle.med_base.specs.declared.outside.source.Pull.{Pull}
 use Rattle.med_base.specs.declared.outside.source.Pull.TheVariants as pull
@@ -28,8 +29,29 @@ pub record IsOnePull {S M : Type 0} (source : Source S M) (old new : S) (answer 
   pub dry : source.dry new ≡ dry_after answer (source.dry old)
   pub left : source.left new + bytes_count answer ≤ source.left old
 
-abbrev pub IsSomePull : {S M : Type 0} → Source S M → S → S → Type 0
-IsSomePull source old new = (answer : Pull) × (room : Bytes) × IsOnePull source old new answer room
+-- the answer gave bytes, or told the end; no bytes tell it too
+abbrev pub GivesSome : Pull → Type 0
+GivesSome (pull.Bytes count) = 0 < count
+GivesSome pull.NotYet = ⊥
+GivesSome pull.End = ⊥
+GivesSome pull.Failed = ⊥
+
+abbrev pub TellsEnd : Pull → Type 0
+TellsEnd (pull.Bytes count) = count ≡ 0
+TellsEnd pull.NotYet = ⊥
+TellsEnd pull.End = ⊤
+TellsEnd pull.Failed = ⊥
+
+-- what a pull of rows answers to the one pull that it made: no failure and no end is passed over
+abbrev pub AnswersPull : Pull → Pulled → Type 0
+AnswersPull answer pulled.Moved = GivesSome answer ⊎ TellsEnd answer
+AnswersPull answer pulled.NotYet = answer ≡ pull.NotYet
+AnswersPull answer pulled.Ended = TellsEnd answer
+AnswersPull answer (pulled.Failed why) = TellsEnd answer ⊎ ((answer ≡ pull.Failed) × (why ≡ fault.Read))
+AnswersPull answer pulled.NoMemory = GivesSome answer
+
+abbrev pub AnswersOnePull : {S M : Type 0} → Source S M → S → S → Pulled → Type 0
+AnswersOnePull source old new result = (answer : Pull) × (room : Bytes) × IsOnePull source old new answer room × AnswersPull answer result
 
 -- one pull gave these bytes, and there are some
 abbrev pub PullGives : {S M : Type 0} → Source S M → S → S → Bytes → Type 0
@@ -38,9 +60,9 @@ PullGives source old new bytes = (count : ℕ) × (room : Bytes) × (0 < count) 
 -- what one pull of bytes did, and the bytes that are kept of it
 abbrev pub ComesOfOnePull : {S M : Type 0} → Source S M → S → S → Bytes → Came → Type 0
 ComesOfOnePull source old new kept came.Bytes = PullGives source old new kept
-ComesOfOnePull source old new kept came.NotYet = IsSomePull source old new
-ComesOfOnePull source old new kept came.End = IsSomePull source old new × (source.waits new ≡ source.waits old)
-ComesOfOnePull source old new kept came.Failed = IsSomePull source old new × (source.waits new ≡ source.waits old)
+ComesOfOnePull source old new kept came.NotYet = (room : Bytes) × IsOnePull source old new pull.NotYet room
+ComesOfOnePull source old new kept came.End = (answer : Pull) × (room : Bytes) × IsOnePull source old new answer room × TellsEnd answer × (source.waits new ≡ source.waits old)
+ComesOfOnePull source old new kept came.Failed = (room : Bytes) × IsOnePull source old new pull.Failed room
 
 -- The source is pulled once where no fault was reached, no end told and no bytes are kept, and else not at all.
 abbrev pub AsksSource : {S : Type 0} → Wrapped S → Type 0

@@ -24,21 +24,21 @@ read_frames k columns left ended = reading_of (frame_reads columns k left ended)
 abbrev pub source_reading : List Column → Bytes → Bool → Reading
 source_reading columns bytes ended = record { rows = source_rows columns bytes ended; verdict = source_verdict columns bytes ended }
 
-abbrev pub clean : Reading
-clean = record { rows = []; verdict = None }
+abbrev pub clean_reading : Reading
+clean_reading = record { rows = []; verdict = None }
 
-abbrev pub fails : MemberFault → Reading
-fails why = record { rows = []; verdict = Some why }
+abbrev pub failed_reading : MemberFault → Reading
+failed_reading why = record { rows = []; verdict = Some why }
 
 -- rows, and what comes after them
-abbrev pub before : RowList → Reading → Reading
-before rows more = record { rows = rows ++ more.rows; verdict = more.verdict }
+abbrev pub rows_then : RowList → Reading → Reading
+rows_then rows more = record { rows = rows ++ more.rows; verdict = more.verdict }
 
 -- what one frame gave, and what comes after it
 abbrev pub read_then : FrameRead → Reading → Reading
 read_then read.Header more = more
-read_then (read.Row row) more = before (row ∷ []) more
-read_then (read.Bad why) more = fails why
+read_then (read.Row row) more = rows_then (row ∷ []) more
+read_then (read.Bad why) more = failed_reading why
 
 -- what was read of a whole text
 abbrev pub whole_reading : SourceRows → Reading

@@ -14,7 +14,7 @@ use Rattle.tuple_core.specs.Values.{RowList}
 use Rattle.csv_frame.specs.Frames.{GoesOn}
 use Rattle.csv_frame.specs.Holding.{HoldsNone}
 use Rattle.csv_wrap.specs.Ahead.{Ahead, HoldsNothing, fault_behind, future}
-use Rattle.csv_wrap.specs.Readings.{before, source_reading}
+use Rattle.csv_wrap.specs.Readings.{rows_then, source_reading}
 use Rattle.csv_wrap.specs.Sound.{IsOfBytes, IsSoundState, accepted_with}
 use Rattle.csv_wrap.specs.declared.wrapper.Came.{Came}
 use Rattle.csv_wrap.specs.declared.wrapper.Came.TheVariants as came
@@ -37,7 +37,7 @@ pub record Wrapped (S : Type 0) : Type 0 where
 -- However the text goes on, its rows are those that were given and then those that are still to be given.
 abbrev pub Continues : {S : Type 0} → Wrapped S → Bytes → RowList → Type 0
 Continues w taken given = (more : Bytes) (ended : Bool) → GoesOn w.ahead.framed.ended more ended
-    → source_reading w.ahead.columns (taken ++ more) ended ≡ before given (future w.ahead (w.kept ++ more) ended)
+    → source_reading w.ahead.columns (taken ++ more) ended ≡ rows_then given (future w.ahead (w.kept ++ more) ended)
 
 -- Of the bytes that were taken, where they are told, these rows were given.
 abbrev pub HasGiven : {S M : Type 0} → Source S M → Wrapped S → RowList → Type 0

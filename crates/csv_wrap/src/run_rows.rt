@@ -4,7 +4,7 @@ ghost use Rattle.std.specs.Prelude.{◌≡◌, ◌+◌, ◌<◌, ◌≤◌, ◌^
 ghost use Rattle.csv_frame.specs.Frames.{frames};
 ghost use Rattle.csv_runs.specs.Runs.{is_run};
 ghost use Rattle.csv_wrap.specs.Ahead.{ReadsFrames, unless_bad};
-ghost use Rattle.csv_wrap.specs.Readings.{Reading, before, read_then};
+ghost use Rattle.csv_wrap.specs.Readings.{Reading, rows_then, read_then};
 
 use crate::frame_rows::{FrameRead, read_record};
 use csv::ByteRecord;
@@ -16,7 +16,7 @@ use tuple_core::{Column, Row};
 
 /// Puts what a frame gave behind the rows; a fault is handed back.
 pub fn put(rows: &mut VecDeque<Row>, read: FrameRead) -> Result<Option<MemberFault>, AllocError>
-    ensures put { IfOk result (λ bad. (more : Reading) → before rows.old.items (read_then read more) ≡ before rows.new.items (unless_bad bad more)) }
+    ensures put { IfOk result (λ bad. (more : Reading) → rows_then rows.old.items (read_then read more) ≡ rows_then rows.new.items (unless_bad bad more)) }
     ensures front { take (length rows.old.items) rows.new.items ≡ rows.old.items }
     ensures failed { OnErr result (rows.new.items ≡ rows.old.items) }
     ensures most { length rows.new.items ≤ length rows.old.items + 1 }

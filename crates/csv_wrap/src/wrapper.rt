@@ -5,7 +5,7 @@ ghost use Rattle.med_base.specs.declared.member.MemberState.TheVariants as state
 ghost use Rattle.tuple_core.specs.Values.{RowList};
 ghost use Rattle.csv_frame.specs.Holding.{HoldsNone};
 ghost use Rattle.csv_wrap.specs.Ahead.{HoldsNothing, IsReadAhead, KeepsFuture};
-ghost use Rattle.csv_wrap.specs.Pulls.{AsksSource, ComesOfOnePull, CountsWaits, IsSomePull, LeavesSource, MovesBy};
+ghost use Rattle.csv_wrap.specs.Pulls.{AnswersOnePull, AsksSource, ComesOfOnePull, CountsWaits, LeavesSource, MovesBy};
 ghost use Rattle.csv_wrap.specs.Wrapped.{AcceptedAs, CameAs, FillsColumns, HasGiven, IsEnd, IsLast, IsNext, IsPulled, IsWrapped, MayPull, SameSource, SoundAs, StaysNext, StaysPulled, Wrapped, fault_of, row_of};
 
 use crate::ahead::{AtEnd, ReadAhead};
@@ -103,8 +103,8 @@ impl<S: Source> Wrapper<S> {
         ensures gave { (given : RowList) → HasGiven S.Source self.old given → HasGiven S.Source self.new given }
         ensures answer { IsPulled S.Source self.old self.new result }
 
-        // One pull of the source, or none.
-        ensures one_pull { AsksSource self.old → IsSomePull S.Source self.old.source self.new.source }
+        // One pull of the source, which this answers, or none.
+        ensures one_pull { AsksSource self.old → AnswersOnePull S.Source self.old.source self.new.source result }
         ensures no_pull { LeavesSource self.old → self.new.source ≡ self.old.source }
         ensures waits { CountsWaits S.Source self.old.source self.new.source result }
         ensures moved { MovesBy S.Source self.old self.new result }

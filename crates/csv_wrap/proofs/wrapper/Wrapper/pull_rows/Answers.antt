@@ -1,6 +1,6 @@
 use Rattle.std.proofs.Common.{sym, ap, ◌∙◌, refl}
 use Rattle.csv_wrap.specs.Wrapped.{Wrapped}
-use Rattle.csv_wrap.proofs.WrapLaws.{accepted_as, end_pulled, later_fault, read_fault, sound_active, unfailed}
+use Rattle.csv_wrap.proofs.WrapLaws.{accepted_as, end_of_pull, end_pulled, later_fault, read_fault, sound_active, unfailed}
 use Rattle.csv_wrap.proofs.wrapper.Wrapper.pull_rows.Goals as goal
 
 pub returns-in-Some-clause-answer : goal.returns-in-Some-clause-answer
@@ -62,3 +62,8 @@ returns-in-Ok-clause-accepted g c = accepted_as g.S.Source c.feed_kept.new.self 
 
 pub returns-in-Err-clause-accepted : goal.returns-in-Err-clause-accepted
 returns-in-Err-clause-accepted g c = accepted_as g.S.Source c.feed_kept.new.self c.feed_kept.ensures.wrapped
+
+pub returns-in-End-clause-one_pull : goal.returns-in-End-clause-one_pull
+returns-in-End-clause-one_pull g c asks =
+    let source = ap (λ (w : Wrapped g.row.S.Denot). w.source) c.at_end-in-End.ensures.same in
+    end_of_pull g.S.Source c.args.self.now.source c.take_piece.new.self.source c.at_end-in-End.new.self c.take_piece.new.self.kept c.at_end-in-End.result source c.in-End.ensures.pulled c.at_end-in-End.ensures.end
