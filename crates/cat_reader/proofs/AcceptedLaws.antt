@@ -1,48 +1,33 @@
 -- An accepted catalogue keeps its limits.
-use Rattle.std.proofs.Common.{◌≡◌, ℕ, ◌+◌, ◌≤◌, ◌==◌, ◌||◌, not, Bool, true, false, true≢false, List, [], ◌∷◌, ◌++◌, map, length, Option, Some, None, Result, Ok, Err, refl, sym, subst, if◌then◌else◌, arith, ◌∙◌}
-use Rattle.std.specs.Prelude.{nat_le, nat_lt}
-use Rattle.std.specs.List.{AllByRecursion, list_any}
+use Rattle.std.proofs.Common.{◌≡◌, ℕ, ◌+◌, ◌≤◌, ◌==◌, ◌||◌, not, Bool, true, false, true≢false, List, [], ◌∷◌, ◌++◌, map, length, Option, Some, None, Ok, refl, sym, subst, if◌then◌else◌, arith, ◌∙◌}
+use Rattle.std.specs.Prelude.{ℤ, codes, is_none, nat_lt, option_and_then, option_map}
+use Rattle.std.specs.List.{AllByRecursion, cons_option, filter_map, list_any}
 use Rattle.std.proofs.lemmas.List.Folds.{list_any-append}
 use Rattle.std.specs.Cmp.Lexicographic.{nat_list_eq_equiv}
+use Rattle.std.specs.Path.{rsplit_once}
 use Rattle.std.proofs.lemmas.Bool.Decides.{nat_tests}
-use Rattle.med_prelude.specs.Reading.{◌>>=◌}
-use Rattle.med_prelude.specs.declared.reading.Refusal.{Refusal}
+use Rattle.toml.specs.Data.{Data, Members, as_str, as_table}
+use Rattle.med_prelude.specs.Names.{is_name}
+use Rattle.med_prelude.specs.Texts.{Bytes}
+use Rattle.tuple_core.specs.declared.columns.Column.{Column}
+use Rattle.tuple_core.specs.declared.columns.Kind.{Kind}
+use Rattle.text_reading.specs.Checks.{IsExact, IsKept, first_broken}
+use Rattle.text_reading.specs.Faults.{broken_if, index_past, indices_where}
+use Rattle.text_reading.specs.Runs.{longest_name}
+use Rattle.text_reading.specs.declared.checks.Broken.{Broken}
+use Rattle.text_reading.proofs.CheckLaws as checks
+use Rattle.text_reading.proofs.FaultLaws.{first_empty, map_empty, none_broken, none_past, not_broken, rest_empty}
+use Rattle.toml_tables.specs.Tables.{text_at}
 use Rattle.cat_reader.specs.Accepted.{AreApart, IsGroupWithin, IsWithin, KeepsLimits, column_names, relation_names}
-use Rattle.cat_reader.specs.Places.{IsExact, IsKept, at, broken_if, by_part, first_broken, of_part, positions}
-use Rattle.cat_reader.specs.Catalogue.{catalogue_of, checked, checks_of, document_of, of_no_relation, relations_in}
-use Rattle.cat_reader.specs.Doubled.{doubled, doubled_after, doubled_columns}
-use Rattle.cat_reader.specs.Limits.{empty_groups, is_empty_group, is_estimate, is_large_group, is_long_column, is_longer, is_own_broken, limit_items, no_group, past}
-use Rattle.cat_reader.specs.Relations.{same_text}
+use Rattle.cat_reader.specs.Catalogue.{catalogue_of, checks_of, document_checks, document_of, relation_checks, relations_in, relations_of, unless_broken}
+use Rattle.cat_reader.specs.Doubled.{doubled_after, doubled_columns, doubled_names}
+use Rattle.cat_reader.specs.Forms.{is_no_column, is_own_misformed, misformed_columns, misformed_groups, misformed_in, misformed_items, tables_of, where_misformed}
+use Rattle.cat_reader.specs.Limits.{empty_groups, is_empty_group, is_estimate, is_large_group, is_long_column, is_longer, is_own_broken, items_past_limits, longest_column, longest_location, most_columns, most_groups, most_mirrors, most_relations, no_group}
+use Rattle.cat_reader.specs.Locations.{in_each, is_up_to, of_none, of_relation, where_order}
+use Rattle.cat_reader.specs.Relations.{colon, column_in, column_of, kind_of, name_of, named_kind, relation_in, relation_of, relation_with, rows_of, same_text, values_at}
 use Rattle.cat_reader.specs.declared.catalogue.Relation.{Relation}
-use Rattle.cat_reader.proofs.ExactLaws.{exact}
-
-first_empty : {A : Type 0} (xs ys : List A) → xs ++ ys ≡ [] → xs ≡ []
-first_empty [] ys e = refl
-first_empty (x ∷ xs) ys e = cc
-
-rest_empty : {A : Type 0} (xs ys : List A) → xs ++ ys ≡ [] → ys ≡ []
-rest_empty [] ys e = e
-rest_empty (x ∷ xs) ys e = cc
-
-map_empty : {A B : Type 0} (f : A → B) (xs : List A) → map f xs ≡ [] → xs ≡ []
-map_empty f [] e = refl
-map_empty f (x ∷ xs) e = cc
-
-not_broken : (b : Bool) (n : ℕ) → broken_if b n ≡ [] → b ≡ false
-not_broken true n e = cc
-not_broken false n e = refl
-
-none_broken : {A : Type 0} (test : A → Bool) (n : ℕ) (xs : List A) → positions test n xs ≡ [] → AllByRecursion (λ x. test x ≡ false) xs
-none_broken test n [] e = tt
-none_broken test n (x ∷ xs) e =
-    (not_broken (test x) n (first_empty (broken_if (test x) n) (positions test (n + 1) xs) e), none_broken test (n + 1) xs (rest_empty (broken_if (test x) n) (positions test (n + 1) xs) e))
-
-no_part : (items_of : Relation → List ℕ) (k : ℕ) (rs : List Relation) → by_part items_of k rs ≡ [] → AllByRecursion (λ r. items_of r ≡ []) rs
-no_part items_of k [] e = tt
-no_part items_of k (r ∷ rs) e = (
-  map_empty (at k) (items_of r) (first_empty (map (at k) (items_of r)) (by_part items_of (k + 1) rs) e),
-  no_part items_of (k + 1) rs (rest_empty (map (at k) (items_of r)) (by_part items_of (k + 1) rs) e),
-)
+use Rattle.cat_reader.specs.declared.locations.Where.{Where}
+use Rattle.cat_reader.proofs.LocationLaws.{none_in}
 
 left_false : (a b : Bool) → (a || b) ≡ false → a ≡ false
 left_false true b e = e
@@ -71,7 +56,7 @@ each_of P Q says [] all = tt
 each_of P Q says (x ∷ xs) all = (says x all.0, each_of P Q says xs all.1)
 
 -- Names of which none is doubled: each is none of those before it, so it differs from each later one.
-new_names : (before : List (List ℕ)) (n : ℕ) (names : List (List ℕ)) → doubled_after before n names ≡ [] → AllByRecursion (λ name. list_any (same_text name) before ≡ false) names
+new_names : (before : List Bytes) (n : ℕ) (names : List Bytes) → doubled_after before n names ≡ [] → AllByRecursion (λ name. list_any (same_text name) before ≡ false) names
 new_names before n [] e = tt
 new_names before n (name ∷ more) e =
     let later = new_names (before ++ name ∷ []) (n + 1) more (rest_empty (broken_if (list_any (same_text name) before) n) (doubled_after (before ++ name ∷ []) (n + 1) more) e) in (
@@ -80,11 +65,11 @@ new_names before n (name ∷ more) e =
           (λ y h. left_false (list_any (same_text y) before) (list_any (same_text y) (name ∷ [])) (sym (list_any-append (same_text y) before (name ∷ [])) ∙ h)) more later,
     )
 
-differs : (before : List (List ℕ)) (name y : List ℕ) → list_any (same_text y) (before ++ name ∷ []) ≡ false → same_text name y ≡ false
+differs : (before : List Bytes) (name y : Bytes) → list_any (same_text y) (before ++ name ∷ []) ≡ false → same_text name y ≡ false
 differs before name y h =
     nat_list_eq_equiv.symm name y ∙ left_false (same_text y name) false (right_false (list_any (same_text y) before) (list_any (same_text y) (name ∷ [])) (sym (list_any-append (same_text y) before (name ∷ [])) ∙ h))
 
-apart_after : (before : List (List ℕ)) (n : ℕ) (names : List (List ℕ)) → doubled_after before n names ≡ [] → AreApart names
+apart_after : (before : List Bytes) (n : ℕ) (names : List Bytes) → doubled_after before n names ≡ [] → AreApart names
 apart_after before n [] e = tt
 apart_after before n (name ∷ more) e =
     let rest = rest_empty (broken_if (list_any (same_text name) before) n) (doubled_after (before ++ name ∷ []) (n + 1) more) e in (
@@ -92,80 +77,191 @@ apart_after before n (name ∷ more) e =
       apart_after (before ++ name ∷ []) (n + 1) more rest,
     )
 
-group_within : (group : List (List ℕ)) → is_large_group group ≡ false → is_empty_group group ≡ false → IsGroupWithin group
+group_within : (group : List Bytes) → is_large_group group ≡ false → is_empty_group group ≡ false → IsGroupWithin group
 group_within group small full =
-    let few = left_false (nat_lt 8 (length group)) (list_any (is_longer 4096) group) small in
-    let short = right_false (nat_lt 8 (length group)) (list_any (is_longer 4096) group) small in
+    let few = left_false (nat_lt most_mirrors (length group)) (list_any (is_longer longest_location) group) small in
+    let short = right_false (nat_lt most_mirrors (length group)) (list_any (is_longer longest_location) group) small in
     let there = left_false (length group == 0) (list_any (λ location. length location == 0) group) full in
     let located = right_false (length group == 0) (list_any (λ location. length location == 0) group) full in
     record {
       some = some (length group) there;
-      few = up_to 8 (length group) few;
+      few = up_to most_mirrors (length group) few;
       located = any_false (λ location. length location == 0) (λ location. 1 ≤ length location) (λ location e. some (length location) e) group located;
-      short = any_false (is_longer 4096) (λ location. length location ≤ 4096) (λ location e. up_to 4096 (length location) e) group short;
+      short = any_false (is_longer longest_location) (λ location. length location ≤ longest_location) (λ location e. up_to longest_location (length location) e) group short;
     }
 
-groups_within : (groups : List (List (List ℕ))) → AllByRecursion (λ g. is_large_group g ≡ false) groups → AllByRecursion (λ g. is_empty_group g ≡ false) groups → AllByRecursion IsGroupWithin groups
+groups_within : (groups : List (List Bytes)) → AllByRecursion (λ g. is_large_group g ≡ false) groups → AllByRecursion (λ g. is_empty_group g ≡ false) groups → AllByRecursion IsGroupWithin groups
 groups_within [] small full = tt
 groups_within (g ∷ groups) small full = (group_within g small.0 full.0, groups_within groups small.1 full.1)
 
--- a relation that breaks none of the checks of sizes
-within : (r : Relation) → doubled_columns r ≡ [] → limit_items r ≡ [] → empty_groups r ≡ [] → no_group r ≡ [] → IsWithin r
-unfolding limit_items
-within r single limits full grouped =
-    let own = broken_if (is_own_broken r) 0 in
-    let columns = past 16 r.columns in
-    let groups = past 16 r.groups in
-    let long = positions is_long_column 0 r.columns in
-    let large = positions is_large_group 0 r.groups in
+-- what the check of forms gives of a relation
+record IsFormed (r : Relation) : Type 0 where
+  named : is_name r.name ≡ true
+  some_column : 1 ≤ length r.columns
+  named_columns : AllByRecursion (λ (c : Column). 1 ≤ length c.name) r.columns
+
+-- a relation that breaks none of the checks
+within : (r : Relation) → IsFormed r → doubled_columns r ≡ [] → items_past_limits r ≡ [] → empty_groups r ≡ [] → no_group r ≡ [] → IsWithin r
+unfolding items_past_limits
+within r formed single limits full grouped =
+    let own : List ℕ = broken_if (is_own_broken r) 0 in
+    let columns : List ℕ = index_past most_columns r.columns in
+    let groups : List ℕ = index_past most_groups r.groups in
+    let long : List ℕ = indices_where is_long_column 0 r.columns in
+    let large : List ℕ = indices_where is_large_group 0 r.groups in
     let upto_long = first_empty (own ++ columns ++ groups ++ long) large limits in
     let upto_groups = first_empty (own ++ columns ++ groups) long upto_long in
     let upto_columns = first_empty (own ++ columns) groups upto_groups in
-    let own_kept = not_broken (is_own_broken r) 0 (first_empty own columns upto_columns) in
+    let own_kept = not_broken {P = ℕ} (is_own_broken r) 0 (first_empty own columns upto_columns) in
     record {
-      name = up_to 64 (length r.name) (left_false (is_longer 64 r.name) (not (is_estimate r.rows)) own_kept);
+      named = formed.named;
+      name = up_to longest_name (length r.name) (left_false (is_longer longest_name r.name) (not (is_estimate r.rows)) own_kept);
+      some_column = formed.some_column;
+      columns = none_past most_columns r.columns (rest_empty own columns upto_columns);
       apart = apart_after [] 0 (column_names r) single;
-      short_columns = each_of (λ c. is_long_column c ≡ false) (λ c. length c.name ≤ 256) (λ c e. up_to 256 (length c.name) e) r.columns (none_broken is_long_column 0 r.columns (rest_empty (own ++ columns ++ groups) long upto_long));
-      columns = up_to 16 (length r.columns) (not_broken (nat_lt 16 (length r.columns)) 16 (rest_empty own columns upto_columns));
-      some_group = some (length r.groups) (not_broken (length r.groups == 0) 0 grouped);
-      groups = up_to 16 (length r.groups) (not_broken (nat_lt 16 (length r.groups)) 16 (rest_empty (own ++ columns) groups upto_groups));
+      named_columns = formed.named_columns;
+      short_columns = each_of (λ c. is_long_column c ≡ false) (λ c. length c.name ≤ longest_column) (λ c e. up_to longest_column (length c.name) e) r.columns (none_broken is_long_column 0 r.columns (rest_empty (own ++ columns ++ groups) long upto_long));
+      some_group = some (length r.groups) (not_broken {P = ℕ} (length r.groups == 0) 0 grouped);
+      groups = none_past most_groups r.groups (rest_empty (own ++ columns) groups upto_groups);
       mirrors = groups_within r.groups (none_broken is_large_group 0 r.groups (rest_empty (own ++ columns ++ groups ++ long) large limits)) (none_broken is_empty_group 0 r.groups full);
-      rows = is_true (is_estimate r.rows) (right_false (is_longer 64 r.name) (not (is_estimate r.rows)) own_kept);
+      rows = is_true (is_estimate r.rows) (right_false (is_longer longest_name r.name) (not (is_estimate r.rows)) own_kept);
     }
 
-each_within : (rs : List Relation) → AllByRecursion (λ r. doubled_columns r ≡ []) rs → AllByRecursion (λ r. limit_items r ≡ []) rs → AllByRecursion (λ r. empty_groups r ≡ []) rs → AllByRecursion (λ r. no_group r ≡ []) rs → AllByRecursion IsWithin rs
-each_within [] single limits full grouped = tt
-each_within (r ∷ rs) single limits full grouped = (within r single.0 limits.0 full.0 grouped.0, each_within rs single.1 limits.1 full.1 grouped.1)
+each_within : (rs : List Relation) → AllByRecursion IsFormed rs → AllByRecursion (λ r. doubled_columns r ≡ []) rs → AllByRecursion (λ r. items_past_limits r ≡ []) rs
+    → AllByRecursion (λ r. empty_groups r ≡ []) rs → AllByRecursion (λ r. no_group r ≡ []) rs → AllByRecursion IsWithin rs
+each_within [] formed single limits full grouped = tt
+each_within (r ∷ rs) formed single limits full grouped =
+    (within r formed.0 single.0 limits.0 full.0 grouped.0, each_within rs formed.1 single.1 limits.1 full.1 grouped.1)
 
-all_kept : (rs : List Relation) → AllByRecursion IsKept (checks_of rs) → KeepsLimits rs
-all_kept rs kept =
-    let names = doubled (relation_names rs) in
-    let single = first_empty (map of_part names) (by_part doubled_columns 0 rs) kept.0 in
-    let columns = rest_empty (map of_part names) (by_part doubled_columns 0 rs) kept.0 in
-    let few = first_empty (map of_part (past 256 rs)) (by_part limit_items 0 rs) kept.1.0 in
-    let limits = rest_empty (map of_part (past 256 rs)) (by_part limit_items 0 rs) kept.1.0 in
+-- relations that keep the checks of relations
+all_kept : (rs : List Relation) → AllByRecursion IsFormed rs → AllByRecursion IsKept (relation_checks rs) → KeepsLimits rs
+all_kept rs formed kept =
+    let names = doubled_names (relation_names rs) in
+    let single = first_empty (map of_relation names) (in_each doubled_columns 0 rs) kept.0 in
+    let columns = rest_empty (map of_relation names) (in_each doubled_columns 0 rs) kept.0 in
+    let few = first_empty (map of_relation (index_past most_relations rs)) (in_each items_past_limits 0 rs) kept.1.0 in
+    let limits = rest_empty (map of_relation (index_past most_relations rs)) (in_each items_past_limits 0 rs) kept.1.0 in
     record {
-      few = up_to 256 (length rs) (not_broken (nat_lt 256 (length rs)) 256 (map_empty of_part (past 256 rs) few));
-      apart = apart_after [] 0 (relation_names rs) (map_empty of_part names single);
-      each = each_within rs (no_part doubled_columns 0 rs columns) (no_part limit_items 0 rs limits) (no_part empty_groups 0 rs kept.1.1.0) (no_part no_group 0 rs kept.1.1.1.0);
+      few = none_past most_relations rs (map_empty of_relation (index_past most_relations rs) few);
+      apart = apart_after [] 0 (relation_names rs) (map_empty of_relation names single);
+      each = each_within rs formed (none_in doubled_columns 0 rs columns) (none_in items_past_limits 0 rs limits) (none_in empty_groups 0 rs kept.1.1.0) (none_in no_group 0 rs kept.1.1.1.0);
     }
 
--- relations that the checks let through
-passed : (rs given : List Relation) → checked rs ≡ Ok given → KeepsLimits given
-unfolding checked
-passed rs given e = by (first_broken (checks_of rs)) (exact (checks_of rs)) e
-  where
-    by : (m : Option Refusal) → IsExact (checks_of rs) m → (elim m as (λ _. Result (List Relation) Refusal) [ Some refusal ↦ Err refusal | None ↦ Ok rs ]) ≡ Ok given → KeepsLimits given
-    by None kept same = let it : rs ≡ given = cc in subst KeepsLimits it (all_kept rs kept)
-    by (Some refusal) broken same = cc
+-- the form of relations
 
-bound : (read : Result (List Relation) Refusal) (given : List Relation) → (read >>= checked) ≡ Ok given → KeepsLimits given
-bound (Ok rs) given e = passed rs given e
-bound (Err refusal) given e = cc
+-- a column's name has a byte
+abbrev HasName : Option Column → Type 0
+HasName None = Unit {0}
+HasName (Some c) = 1 ≤ length c.name
 
-pub accepted_within : (text : List ℕ) (given : List Relation) → catalogue_of text ≡ Ok given → KeepsLimits given
-accepted_within text given e = by (nat_le (length text) 1048576) e
+kind_named : (name : Bytes) (kind : Option Kind) → 1 ≤ length name → HasName (option_map (λ k. record { name = name; kind = k }) kind)
+kind_named name None h = tt
+kind_named name (Some k) h = h
+
+parts_named : (parts : Option (Bytes × Bytes)) → HasName (option_and_then named_kind parts)
+parts_named None = tt
+parts_named (Some (name, word)) = by (length name == 0) refl
   where
-    by : (b : Bool) → (if b then relations_in (document_of text) >>= checked else Err (of_no_relation 4)) ≡ Ok given → KeepsLimits given
-    by true e = bound (relations_in (document_of text)) given e
-    by false e = cc
+    by : (b : Bool) → (length name == 0) ≡ b → HasName (if b then None else option_map (λ k. record { name = name; kind = k }) (kind_of word))
+    by true e = tt
+    by false e = kind_named name (kind_of word) (some (length name) e)
+
+text_named : (text : Option Bytes) → HasName (option_and_then column_of text)
+text_named None = tt
+text_named (Some text) = parts_named (rsplit_once colon text)
+
+column_named : (d : Data) → HasName (column_in d)
+unfolding column_in
+column_named d = text_named (as_str d)
+
+put_named : (c : Option Column) (cs : List Column) → HasName c → AllByRecursion (λ (c : Column). 1 ≤ length c.name) cs → AllByRecursion (λ (c : Column). 1 ≤ length c.name) (cons_option c cs)
+put_named None cs h rest = rest
+put_named (Some c) cs h rest = (h, rest)
+
+columns_named : (values : List Data) → AllByRecursion (λ (c : Column). 1 ≤ length c.name) (filter_map column_in values)
+columns_named [] = tt
+columns_named (d ∷ values) = put_named (column_in d) (filter_map column_in values) (column_named d) (columns_named values)
+
+put_some : (c : Option Column) (cs : List Column) → is_none c ≡ false → 1 ≤ length (cons_option c cs)
+put_some None cs e = absurd (true≢false e)
+put_some (Some c) cs e = omega arith
+
+columns_some : (values : List Data) → (length values == 0) ≡ false → AllByRecursion (λ d. is_no_column d ≡ false) values → 1 ≤ length (filter_map column_in values)
+columns_some [] e all = absurd (true≢false e)
+columns_some (d ∷ values) e all = put_some (column_in d) (filter_map column_in values) all.0
+
+-- a name that a table says is one
+abbrev IsNamed : Option Bytes → Type 0
+IsNamed None = Unit {0}
+IsNamed (Some name) = is_name name ≡ true
+
+text_is_name : (text : Option Bytes) → IsNamed (option_and_then (λ bytes. if is_name bytes then Some bytes else None) text)
+text_is_name None = tt
+text_is_name (Some bytes) = by (is_name bytes) refl
+  where
+    by : (b : Bool) → is_name bytes ≡ b → IsNamed (if b then Some bytes else None)
+    by true e = e
+    by false e = tt
+
+name_is_name : (ms : Members) → IsNamed (name_of ms)
+name_is_name ms = text_is_name (text_at (codes "name") ms)
+
+abbrev IfFormed : Option Relation → Type 0
+IfFormed None = Unit {0}
+IfFormed (Some r) = IsFormed r
+
+with_rows : (ms : Members) (name : Bytes) (rows : Option ℤ) → is_name name ≡ true → misformed_columns ms ≡ [] → IfFormed (option_map (relation_with ms name) rows)
+with_rows ms name None named kept = tt
+with_rows ms name (Some rows) named kept =
+    let values = values_at (codes "columns") ms in
+    let some_value = not_broken {P = ℕ} (length values == 0) 0 (first_empty (broken_if (length values == 0) 0) (indices_where is_no_column 0 values) kept) in
+    let each = none_broken is_no_column 0 values (rest_empty (broken_if (length values == 0) 0) (indices_where is_no_column 0 values) kept) in
+    record { named = named; some_column = columns_some values some_value each; named_columns = columns_named values }
+
+formed_table : (ms : Members) → misformed_items ms ≡ [] → IfFormed (relation_of ms)
+unfolding misformed_items
+formed_table ms kept =
+    let own : List ℕ = broken_if (is_own_misformed ms) 0 in
+    let columns = rest_empty own (misformed_columns ms) (first_empty (own ++ misformed_columns ms) (misformed_groups ms) kept) in
+    by (name_of ms) (name_is_name ms) columns
+  where
+    by : (name : Option Bytes) → IsNamed name → misformed_columns ms ≡ [] → IfFormed (option_and_then (λ n. option_map (relation_with ms n) (rows_of ms)) name)
+    by None named columns = tt
+    by (Some name) named columns = with_rows ms name (rows_of ms) named columns
+
+formed_in : (d : Data) → misformed_in d ≡ [] → IfFormed (relation_in d)
+unfolding misformed_in relation_in
+formed_in d kept = by (as_table d) kept
+  where
+    by : (table : Option Members) → (elim table as (λ _. List ℕ) [ None ↦ 0 ∷ [] | Some ms ↦ misformed_items ms ]) ≡ [] → IfFormed (option_and_then relation_of table)
+    by None e = tt
+    by (Some ms) e = formed_table ms e
+
+put_formed : (r : Option Relation) (rs : List Relation) → IfFormed r → AllByRecursion IsFormed rs → AllByRecursion IsFormed (cons_option r rs)
+put_formed None rs h rest = rest
+put_formed (Some r) rs h rest = (h, rest)
+
+all_formed : (tables : List Data) → AllByRecursion (λ d. misformed_in d ≡ []) tables → AllByRecursion IsFormed (filter_map relation_in tables)
+all_formed [] kept = tt
+all_formed (d ∷ tables) kept = put_formed (relation_in d) (filter_map relation_in tables) (formed_in d kept.0) (all_formed tables kept.1)
+
+formed : (document : Members) → where_misformed document ≡ [] → AllByRecursion IsFormed (relations_of document)
+unfolding where_misformed relations_of
+formed document kept = by (tables_of document) kept
+  where
+    by : (tables : Option (List Data)) → (elim tables as (λ _. List Where) [ None ↦ of_none ∷ [] | Some values ↦ in_each misformed_in 0 values ]) ≡ []
+        → AllByRecursion IsFormed (elim tables as (λ _. List Relation) [ None ↦ [] | Some values ↦ filter_map relation_in values ])
+    by None e = tt
+    by (Some values) e = all_formed values (none_in misformed_in 0 values e)
+
+-- what the checks let through
+kept_within : (document : Option Members) → AllByRecursion IsKept (document_checks document) → KeepsLimits (relations_in document)
+kept_within None kept = absurd (cc)
+kept_within (Some document) kept = all_kept (relations_of document) (formed document kept.1.0) kept.1.1
+
+accepted : (text : Bytes) (given : List Relation) (told : Option (Broken Where)) → IsExact is_up_to (checks_of text) told → unless_broken told (relations_in (document_of text)) ≡ Ok given → KeepsLimits given
+accepted text given None kept e = let it : relations_in (document_of text) ≡ given = cc in subst KeepsLimits it (kept_within (document_of text) kept.1)
+accepted text given (Some broken) exact e = cc
+
+pub accepted_within : (text : Bytes) (given : List Relation) → catalogue_of text ≡ Ok given → KeepsLimits given
+accepted_within text given e = accepted text given (first_broken is_up_to (checks_of text)) (checks.exact is_up_to where_order (checks_of text)) e

@@ -4,10 +4,11 @@ use Rattle.std.specs.Prelude.{nat_le}
 use Rattle.std.specs.List.{AllByRecursion, list_any}
 use Rattle.std.proofs.lemmas.List.{drop_more, take_more, map-append, length-map}
 use Rattle.std.proofs.Math.ListN.{get_or-map}
-use Rattle.cat_reader.specs.Places.{broken_if, least}
-use Rattle.cat_reader.specs.Doubled.{doubled, doubled_after}
+use Rattle.text_reading.specs.Faults.{broken_if}
+use Rattle.text_reading.specs.Order.{least}
+use Rattle.text_reading.proofs.FaultLaws.{lesser_front, from_below}
+use Rattle.cat_reader.specs.Doubled.{doubled_after, doubled_names}
 use Rattle.cat_reader.specs.Relations.{same_text}
-use Rattle.cat_reader.proofs.PlaceLaws.{lesser_front, from_below}
 
 -- the texts that references point to
 abbrev pub texts : List (Bor (List ℕ)) → List (List ℕ)
@@ -61,8 +62,8 @@ module _ (names seen : List (Bor (List ℕ))) (k : ℕ) (d : Bor (List ℕ)) (in
 
   -- the name at k is the first that is doubled
   pub first_found : (is_new : Bool) → is_new ≡ not (is_seen (get_or names k d) seen) → is_new ≡ false
-      → doubled_after (take k (texts names)) k (drop k (texts names)) ≡ doubled (texts names)
-      → Some k ≡ least nat_le (doubled (texts names))
+      → doubled_after (take k (texts names)) k (drop k (texts names)) ≡ doubled_names (texts names)
+      → Some k ≡ least nat_le (doubled_names (texts names))
   first_found is_new added old none =
       sym (ap (least nat_le) (sym none) ∙ old_name (texts names) k d.now within (tested ∙ not_false _ (sym old ∙ added)))
     where
@@ -76,8 +77,8 @@ module _ (names seen : List (Bor (List ℕ))) (k : ℕ) (d : Bor (List ℕ)) (in
 
   -- no name up to k is doubled
   pub none_found : (is_new : Bool) → is_new ≡ not (is_seen (get_or names k d) seen) → is_new ≡ true
-      → doubled_after (take k (texts names)) k (drop k (texts names)) ≡ doubled (texts names)
-      → doubled_after (take (k + 1) (texts names)) (k + 1) (drop (k + 1) (texts names)) ≡ doubled (texts names)
+      → doubled_after (take k (texts names)) k (drop k (texts names)) ≡ doubled_names (texts names)
+      → doubled_after (take (k + 1) (texts names)) (k + 1) (drop (k + 1) (texts names)) ≡ doubled_names (texts names)
   none_found is_new added new none = new_name (texts names) k d.now within (tested ∙ not_true _ (sym new ∙ added)) ∙ none
 
   pub one_seen : (is_new : Bool) (after : List (Bor (List ℕ))) → is_new ≡ not (is_seen (get_or names k d) seen) → is_new ≡ true

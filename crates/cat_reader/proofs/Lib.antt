@@ -1,8 +1,8 @@
 pub mod AcceptedLaws
 pub mod Colons
 pub mod DoubledLaws
-pub mod ExactLaws
+pub mod FormLaws
 pub mod LimitLaws
-pub mod PlaceLaws
-pub mod TableLaws
+pub mod LocationLaws
+pub mod RefusalLaws
 pub mod WhyLaws

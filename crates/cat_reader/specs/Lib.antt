@@ -1,7 +1,7 @@
 pub mod Accepted
 pub mod Catalogue
 pub mod Doubled
-pub mod Entries
+pub mod Forms
 pub mod Limits
-pub mod Places
+pub mod Locations
 pub mod Relations

@@ -1,21 +1,21 @@
--- What a table of a catalogue says of its relation. A broken table is refused at the position of a column or
--- a group, or at 0 where the fault is of none.
-use Rattle.std.specs.Prelude.{ℕ, ℤ, pos, Bool, ◌==◌, ◌||◌, not, if◌then◌else◌, List, length, nat_eq, codes, Option, Some, None, option_map, option_and_then, is_some, Result, Ok, Err}
+-- What a table of a catalogue says of its relation. What isn't of its form says nothing: the check of forms refuses it.
+use Rattle.std.specs.Prelude.{ℕ, ℤ, pos, Bool, ◌==◌, if◌then◌else◌, List, [], length, map, nat_eq, codes, Option, Some, None, option_map, option_and_then, unwrap_or}
 use Rattle.std.specs.Cmp.Lexicographic.{pointwise}
+use Rattle.std.specs.List.{filter_map}
 use Rattle.std.specs.Path.{rsplit_once}
 use Rattle.toml.specs.Data.{Data, Members, get_member, as_str, as_integer, as_table}
 use Rattle.med_prelude.specs.Names.{is_name}
-use Rattle.med_prelude.specs.Reading.{or_at, ◌>>=◌, beside, read_each}
+use Rattle.med_prelude.specs.Texts.{Bytes}
 use Rattle.tuple_core.specs.declared.columns.Column.{Column}
 use Rattle.tuple_core.specs.declared.columns.Kind.{Kind}
 use Rattle.tuple_core.specs.declared.columns.Kind.TheVariants as kind
-use Rattle.cat_reader.specs.Entries.{has_only, values_of, text_at, array_at}
+use Rattle.toml_tables.specs.Tables.{values_of, text_at, array_at}
 use Rattle.cat_reader.specs.declared.catalogue.Relation.{Relation}
 
-abbrev pub same_text : List ℕ → List ℕ → Bool
+abbrev pub same_text : Bytes → Bytes → Bool
 same_text = pointwise nat_eq
 
-unfoldable pub kind_of : List ℕ → Option Kind
+unfoldable pub kind_of : Bytes → Option Kind
 kind_of word =
     if same_text word (codes "int") then Some kind.Int
     else if same_text word (codes "text") then Some kind.Text
@@ -23,7 +23,7 @@ kind_of word =
     else None
 
 -- a name that isn't empty, and the word of a kind
-abbrev pub named_kind : List ℕ × List ℕ → Option Column
+abbrev pub named_kind : Bytes × Bytes → Option Column
 named_kind (name, word) =
     if length name == 0 then None
     else option_map (λ k. record { name = name; kind = k }) (kind_of word)
@@ -33,44 +33,42 @@ abbrev pub colon : ℕ
 colon = 58
 
 -- the name is all before the last colon
-abbrev pub column_of : List ℕ → Option Column
+abbrev pub column_of : Bytes → Option Column
 column_of text = option_and_then named_kind (rsplit_once colon text)
 
-unfoldable pub column_at : ℕ → Data → Result Column ℕ
-column_at place d = or_at place (option_and_then column_of (as_str d))
+unfoldable pub column_in : Data → Option Column
+column_in d = option_and_then column_of (as_str d)
 
--- at least one column
-abbrev pub columns_of : Members → Result (List Column) ℕ
-columns_of ms =
-    or_at 0 (array_at (codes "columns") ms) >>= λ values.
-    if length values == 0 then Err 0 else read_each column_at 0 values
+-- the values of the array at a key
+abbrev pub values_at : Bytes → Members → List Data
+values_at key ms = unwrap_or (array_at key ms) []
 
--- the locations of a group's mirrors; a fault of any of them is the group's
-unfoldable pub group_at : ℕ → Data → Result (List (List ℕ)) ℕ
-group_at place d = or_at place (values_of d) >>= read_each (λ _ e. or_at place (as_str e)) 0
+abbrev pub columns_of : Members → List Column
+columns_of ms = filter_map column_in (values_at (codes "columns") ms)
 
-abbrev pub groups_of : Members → Result (List (List (List ℕ))) ℕ
-groups_of ms = or_at 0 (array_at (codes "groups") ms) >>= read_each group_at 0
+-- the locations of a group's mirrors
+unfoldable pub group_in : Data → List Bytes
+group_in d = filter_map as_str (unwrap_or (values_of d) [])
 
-abbrev pub name_of : Members → Option (List ℕ)
+abbrev pub groups_of : Members → List (List Bytes)
+groups_of ms = map group_in (values_at (codes "groups") ms)
+
+abbrev pub name_of : Members → Option Bytes
 name_of ms = option_and_then (λ text. if is_name text then Some text else None) (text_at (codes "name") ms)
 
--- 1,000 where nothing is said
+-- the estimate where none is given
+abbrev pub default_rows : ℕ
+default_rows = 1000
+
 abbrev pub rows_of : Members → Option ℤ
-rows_of ms = elim (get_member (codes "rows") ms) [ None ↦ Some (pos 1000) | Some d ↦ as_integer d ]
+rows_of ms = elim (get_member (codes "rows") ms) [ None ↦ Some (pos default_rows) | Some d ↦ as_integer d ]
 
--- the entries that a relation's table may have
-unfoldable pub is_relation_key : List ℕ → Bool
-is_relation_key key = same_text key (codes "name") || same_text key (codes "columns") || same_text key (codes "groups") || same_text key (codes "rows")
+-- the relation of that name and that estimate
+abbrev pub relation_with : Members → Bytes → ℤ → Relation
+relation_with ms name rows = record { name = name; columns = columns_of ms; groups = groups_of ms; rows = rows }
 
--- The faults of no column and no group count first, and then the least position of a broken column or group.
-abbrev pub relation_of : Members → Result Relation ℕ
-relation_of ms =
-    if not (has_only is_relation_key ms) then Err 0
-    else or_at 0 (name_of ms) >>= λ name.
-    or_at 0 (rows_of ms) >>= λ rows.
-    beside (columns_of ms) (groups_of ms) >>= λ lists.
-    Ok (record { name = name; columns = lists.0; groups = lists.1; rows = rows })
+abbrev pub relation_of : Members → Option Relation
+relation_of ms = option_and_then (λ name. option_map (relation_with ms name) (rows_of ms)) (name_of ms)
 
-abbrev pub is_table : Data → Bool
-is_table d = is_some (as_table d)
+unfoldable pub relation_in : Data → Option Relation
+relation_in d = option_and_then relation_of (as_table d)

@@ -1,15 +1,15 @@
 //! The columns of a relation: a name, a colon and a kind each.
 
-ghost use Rattle.med_prelude.specs.Reading.{Gives, or_at, read_each};
-ghost use Rattle.cat_reader.specs.Relations.{colon, kind_of, column_of, column_at, columns_of};
-ghost use Rattle.std.specs.Prelude.{◌≡◌, map, option_map};
+ghost use Rattle.cat_reader.specs.Forms.{is_no_column};
+ghost use Rattle.cat_reader.specs.Relations.{colon, column_in, column_of, kind_of};
+ghost use Rattle.std.specs.List.{filter_map};
 ghost use Rattle.std.specs.Path.{rsplit_once};
-ghost use Rattle.toml.specs.View.{view, table_view};
+ghost use Rattle.std.specs.Prelude.{◌≡◌, map, option_map, IfOk};
+ghost use Rattle.toml.specs.View.{view};
 
-use crate::entries::array_at;
-use med_prelude::{Listed, ReadFault, Text};
-use std::alloc::Global;
-use toml::{Table, Value};
+use med_prelude::{Listed, Text};
+use std::alloc::{AllocError, Global};
+use toml::Value;
 use tuple_core::{Column, Columns, Kind};
 
 #[tactic(auto, unfolding(crate::specs::Relations::kind_of))]
@@ -31,51 +31,58 @@ fn parts_of(text: &str) -> Option<(&str, &str)>
     text.rsplit_once(':')
 }
 
-/// The column of a text, at a position of the columns.
-fn column_of(alloc: Global, place: u64, text: &str) -> Result<Column, ReadFault<u64>>
-    ensures { Gives result (or_at place (column_of text.now)) }
+/// The name and the kind of a column, from its text.
+fn named_kind(text: &str) -> Option<(&str, Kind)>
+    ensures { option_map (λ parts. record { name = parts.0.now; kind = parts.1 }) result ≡ column_of text.now }
 {
-    let Some((name, word)) = parts_of(text) else {
-        return Err(ReadFault::Broken(place));
-    };
+    let (name, word) = parts_of(text)?;
     if name.is_empty() {
-        return Err(ReadFault::Broken(place));
+        return None;
     }
-    let Some(kind) = kind_of(word) else {
-        return Err(ReadFault::Broken(place));
-    };
-    let name = Text::from_str(alloc, name).map_err(|_| ReadFault::NoMemory)?;
-    Ok(Column { name, kind })
+    match kind_of(word) {
+        Some(kind) => Some((name, kind)),
+        None => None,
+    }
 }
 
-#[tactic(auto, unfolding(crate::specs::Relations::column_at))]
-fn column_at(alloc: Global, place: u64, value: &Value) -> Result<Column, ReadFault<u64>>
-    ensures { Gives result (column_at place (view value.now)) }
+#[tactic(auto, unfolding(crate::specs::Relations::column_in))]
+fn column_parts(value: &Value) -> Option<(&str, Kind)>
+    ensures { option_map (λ parts. record { name = parts.0.now; kind = parts.1 }) result ≡ column_in (view value.now) }
 {
     match value.as_str() {
-        Some(text) => column_of(alloc, place, text),
-        None => Err(ReadFault::Broken(place)),
+        Some(text) => named_kind(text),
+        None => None,
     }
 }
 
-/// The columns of a relation's table, of which there is at least one.
-pub fn columns_of(alloc: Global, table: &Table) -> Result<Columns, ReadFault<u64>>
-    ensures { Gives result (columns_of (table_view table.now)) }
+/// Whether the value isn't the text of a column.
+pub fn is_no_column(value: &Value) -> bool
+    ensures { result ≡ is_no_column (view value.now) }
 {
-    match array_at(table, "columns") {
-        Some(values) if !values.is_empty() => read_columns(alloc, values),
-        Some(_) | None => Err(ReadFault::Broken(0)),
+    column_parts(value).is_none()
+}
+
+fn column_in(alloc: Global, value: &Value) -> Result<Option<Column>, AllocError>
+    ensures { IfOk result (λ column. column ≡ column_in (view value.now)) }
+{
+    match column_parts(value) {
+        Some((name, kind)) => {
+            let name = Text::from_str(alloc, name)?;
+            Ok(Some(Column { name, kind }))
+        }
+        None => Ok(None),
     }
 }
 
-fn read_columns(alloc: Global, values: &[Value]) -> Result<Columns, ReadFault<u64>>
-    ensures { Gives result (read_each column_at 0 (map view values.now)) }
+/// The columns that the values say.
+pub fn read_columns(alloc: Global, values: &[Value]) -> Result<Columns, AllocError>
+    ensures { IfOk result (λ columns. columns ≡ filter_map column_in (map view values.now)) }
 {
     let mut columns = Listed::new(alloc);
-    for (place, value) in values.iter().enumerate() {
-        columns
-            .push(column_at(alloc, place as u64, value)?)
-            .map_err(|_| ReadFault::NoMemory)?;
+    for value in values {
+        if let Some(column) = column_in(alloc, value)? {
+            columns.push(column)?;
+        }
     }
     Ok(columns)
 }

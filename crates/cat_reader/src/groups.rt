@@ -1,67 +1,64 @@
 //! The groups of a relation: the locations of each group's mirrors.
 
-ghost use Rattle.med_prelude.specs.Reading.{Gives, or_at, read_each};
-ghost use Rattle.cat_reader.specs.Relations.{group_at, groups_of};
-ghost use Rattle.std.specs.Prelude.{◌≡◌, map};
+ghost use Rattle.cat_reader.specs.Forms.{is_no_group, is_string};
+ghost use Rattle.cat_reader.specs.Relations.{group_in};
+ghost use Rattle.std.specs.List.{filter_map, list_all};
+ghost use Rattle.std.specs.Prelude.{◌≡◌, map, IfOk};
 ghost use Rattle.toml.specs.Data.{as_str};
-ghost use Rattle.toml.specs.View.{view, table_view};
+ghost use Rattle.toml.specs.View.{view};
 
-use crate::entries::{array_at, values_of};
-use med_prelude::{Listed, ReadFault, Text};
-use std::alloc::Global;
-use toml::{Table, Value};
+use med_prelude::{Listed, Text};
+use std::alloc::{AllocError, Global};
+use toml::Value;
+use toml_tables::values_of;
 use tuple_core::Words;
 
-/// A mirror's location, in the group at a position of the groups.
-fn location_of(alloc: Global, place: u64, value: &Value) -> Result<Text, ReadFault<u64>>
-    ensures { Gives result (or_at place (as_str (view value.now))) }
+fn are_strings(values: &[Value]) -> bool
+    ensures { result ≡ list_all (λ value. is_string (view value)) values.now }
 {
-    match value.as_str() {
-        Some(text) => Text::from_str(alloc, text).map_err(|_| ReadFault::NoMemory),
-        None => Err(ReadFault::Broken(place)),
-    }
+    values.iter().all(|value| value.is_str())
 }
 
-fn read_locations(alloc: Global, place: u64, values: &[Value]) -> Result<Words, ReadFault<u64>>
-    ensures { Gives result (read_each (λ _ e. or_at place (as_str e)) 0 (map view values.now)) }
-{
-    let mut locations = Listed::new(alloc);
-    for value in values {
-        locations
-            .push(location_of(alloc, place, value)?)
-            .map_err(|_| ReadFault::NoMemory)?;
-    }
-    Ok(locations)
-}
-
-#[tactic(auto, unfolding(crate::specs::Relations::group_at))]
-fn group_at(alloc: Global, place: u64, value: &Value) -> Result<Words, ReadFault<u64>>
-    ensures { Gives result (group_at place (view value.now)) }
+/// Whether the value isn't a list of texts.
+pub fn is_no_group(value: &Value) -> bool
+    ensures { result ≡ is_no_group (view value.now) }
 {
     match values_of(value) {
-        Some(values) => read_locations(alloc, place, values),
-        None => Err(ReadFault::Broken(place)),
+        Some(values) => !are_strings(values),
+        None => true,
     }
 }
 
-fn read_groups(alloc: Global, values: &[Value]) -> Result<Listed<Words>, ReadFault<u64>>
-    ensures { Gives result (read_each group_at 0 (map view values.now)) }
+/// The texts among the values.
+fn texts_of(alloc: Global, values: &[Value]) -> Result<Words, AllocError>
+    ensures { IfOk result (λ texts. texts ≡ filter_map as_str (map view values.now)) }
+{
+    let mut texts = Listed::new(alloc);
+    for value in values {
+        if let Some(text) = value.as_str() {
+            texts.push(Text::from_str(alloc, text)?)?;
+        }
+    }
+    Ok(texts)
+}
+
+#[tactic(auto, unfolding(crate::specs::Relations::group_in))]
+fn group_in(alloc: Global, value: &Value) -> Result<Words, AllocError>
+    ensures { IfOk result (λ group. group ≡ group_in (view value.now)) }
+{
+    match values_of(value) {
+        Some(values) => texts_of(alloc, values),
+        None => Ok(Listed::new(alloc)),
+    }
+}
+
+/// The groups that the values say.
+pub fn read_groups(alloc: Global, values: &[Value]) -> Result<Listed<Words>, AllocError>
+    ensures { IfOk result (λ groups. groups ≡ map group_in (map view values.now)) }
 {
     let mut groups = Listed::new(alloc);
-    for (place, value) in values.iter().enumerate() {
-        groups
-            .push(group_at(alloc, place as u64, value)?)
-            .map_err(|_| ReadFault::NoMemory)?;
+    for value in values {
+        groups.push(group_in(alloc, value)?)?;
     }
     Ok(groups)
-}
-
-/// The groups of a relation's table.
-pub fn groups_of(alloc: Global, table: &Table) -> Result<Listed<Words>, ReadFault<u64>>
-    ensures { Gives result (groups_of (table_view table.now)) }
-{
-    match array_at(table, "groups") {
-        Some(values) => read_groups(alloc, values),
-        None => Err(ReadFault::Broken(0)),
-    }
 }

@@ -4,17 +4,15 @@
 mod catalogue;
 mod columns;
 mod doubled;
-mod entries;
+mod forms;
 mod groups;
 mod limits;
-mod places;
+mod locations;
 mod reading;
-mod shape;
-mod tables;
+mod relations;
 
 pub use catalogue::{Catalogue, CatalogueFault, Relation};
-pub use places::first_broken_is_exact;
-pub use reading::{LONGEST_CATALOGUE, first_check_is_toml, read_catalogue};
+pub use reading::{LONGEST_CATALOGUE, first_check_is_toml, least_fault_is_told, read_catalogue};
 
 #[cfg(test)]
 mod tests;

@@ -1,125 +1,119 @@
 //! The reader of a catalogue's text.
 
 ghost use Rattle.cat_reader.specs.Accepted.{KeepsLimits};
-ghost use Rattle.cat_reader.specs.Catalogue.{Reads, Tells, catalogue_of, checked, checks_of, document_of, is_not_toml, relations_in, why_of};
-ghost use Rattle.cat_reader.specs.Places.{first_broken, refused};
-ghost use Rattle.med_prelude.specs.Reading.{Gives};
-ghost use Rattle.std.specs.Prelude.{◌≡◌, ◌==◌, ℕ, List, IfOk};
+ghost use Rattle.cat_reader.specs.Catalogue.{AnswersCatalogue, catalogue_of, checks_of, document_says, is_not_toml, of_no_relation, relation_checks, relations_of, unless_broken, why_of};
+ghost use Rattle.cat_reader.specs.Locations.{is_up_to};
+ghost use Rattle.med_prelude.specs.Texts.{Bytes};
+ghost use Rattle.std.specs.Prelude.{◌≡◌, ◌==◌, Some, IfOk};
+ghost use Rattle.text_reading.specs.Checks.{IsExact, first_broken};
 ghost use Rattle.toml.specs.Parse.{parse_document};
+ghost use Rattle.toml.specs.View.{table_view};
 
 use crate::catalogue::{Catalogue, CatalogueFault, Relation};
-use crate::doubled::doubled_place;
-use crate::limits::{empty_place, groupless_place, limit_place};
-use crate::places::Place;
-use crate::shape::{of_no_relation, relations_of};
-use med_prelude::{ReadFault, Refusal};
+use crate::doubled::doubled_location;
+use crate::forms::{misformed_location, tables_of};
+use crate::limits::{EmptyCheck, GroupCheck, limit_location};
+use crate::locations::{Where, least_in_each};
+use crate::relations::read_relations;
+use med_prelude::Listed;
 use std::alloc::{AllocError, Global};
+use text_reading::{Broken, told_first};
+use toml::Table;
 
 /// The most bytes of a catalogue's text.
 pub const LONGEST_CATALOGUE: usize = 1_048_576;
 
-/// Reads a catalogue as a whole, or tells the first check that its text breaks, with the least place where
+/// Reads a catalogue as a whole, or tells the first check that its text breaks, with the least location where
 /// it does.
 #[tactic(auto, using(crate::proofs::AcceptedLaws::accepted_within))]
 pub fn read_catalogue(alloc: Global, text: &[u8]) -> Result<Catalogue, CatalogueFault>
-    ensures reads { Reads result (catalogue_of text.now) }
+    ensures reads { AnswersCatalogue result (catalogue_of text.now) }
     ensures limits { IfOk result KeepsLimits }
 {
-    match read_checked(alloc, text) {
-        Ok(catalogue) => Ok(catalogue),
-        Err(ReadFault::Broken(refusal)) => Err(told(refusal)),
-        Err(ReadFault::NoMemory) => Err(CatalogueFault::NoMemory),
-    }
+    read_text(alloc, text)
 }
 
 /// The law of the first check: it is told exactly of a text that has the size of a catalogue and isn't TOML.
 #[tactic(auto, using(crate::proofs::WhyLaws::one_is_not_toml))]
 pub fn first_check_is_toml()
-    ensures { (text : List ℕ) → (why_of (catalogue_of text) == 1) ≡ is_not_toml text }
+    ensures { (text : Bytes) → (why_of (catalogue_of text) == 1) ≡ is_not_toml text }
 {}
 
-/// A position past 32 bits, which no text of the greatest length has, is answered as want of memory.
-fn told(refusal: Refusal) -> CatalogueFault
-    ensures { Tells refusal result }
-{
-    match (u32::try_from(refusal.part), u32::try_from(refusal.item)) {
-        (Ok(relation), Ok(item)) => CatalogueFault::Refused {
-            why: refusal.why,
-            relation,
-            item,
-        },
-        (Ok(_), Err(_)) | (Err(_), _) => CatalogueFault::NoMemory,
-    }
-}
+/// The law of refusals: what is told of a text is its first broken check, at a location that breaks it and is up to every
+/// other one; and nothing is told exactly where all its checks are kept.
+#[tactic(auto, using(crate::proofs::RefusalLaws::exact))]
+pub fn least_fault_is_told()
+    ensures { (text : Bytes) → IsExact is_up_to (checks_of text) (first_broken is_up_to (checks_of text)) }
+{}
 
-fn read_checked(alloc: Global, text: &[u8]) -> Result<Catalogue, ReadFault<Refusal>>
-    ensures { Gives result (catalogue_of text.now) }
+fn of_no_relation(why: u8) -> CatalogueFault
+    ensures { result ≡ of_no_relation why }
 {
-    if text.len() > LONGEST_CATALOGUE {
-        return Err(of_no_relation(4));
-    }
-    match read_relations(alloc, text) {
-        Ok(relations) => check(alloc, relations),
-        Err(fault) => Err(fault),
+    CatalogueFault::Refused {
+        why,
+        relation: 0,
+        item: 0,
     }
 }
 
 #[tactic(auto, using(med_prelude::proofs::Utf8::utf8_test, med_prelude::proofs::Utf8::utf8_refuted))]
-fn read_relations(alloc: Global, text: &[u8]) -> Result<Catalogue, ReadFault<Refusal>>
-    ensures { Gives result (relations_in (document_of text.now)) }
+fn read_text(alloc: Global, text: &[u8]) -> Result<Catalogue, CatalogueFault>
+    ensures { AnswersCatalogue result (catalogue_of text.now) }
 {
+    if text.len() > LONGEST_CATALOGUE {
+        return Err(of_no_relation(4));
+    }
     match str::from_utf8(text) {
-        Ok(text) => read_document(alloc, text),
+        Ok(text) => read_toml(alloc, text),
         Err(_) => Err(of_no_relation(1)),
     }
 }
 
-fn read_document(alloc: Global, text: &str) -> Result<Catalogue, ReadFault<Refusal>>
-    ensures { Gives result (relations_in (parse_document text.now)) }
+fn read_toml(alloc: Global, text: &str) -> Result<Catalogue, CatalogueFault>
+    ensures { AnswersCatalogue result (document_says (parse_document text.now)) }
 {
     match toml::table_from_str(alloc, text) {
-        Ok(document) => relations_of(alloc, &document),
-        Err(error) if error.is_memory() => Err(ReadFault::NoMemory),
+        Ok(document) => read_document(alloc, &document),
+        Err(error) if error.is_memory() => Err(CatalogueFault::NoMemory),
         Err(_) => Err(of_no_relation(1)),
     }
 }
 
-#[tactic(auto, unfolding(crate::specs::Catalogue::checked))]
-fn check(alloc: Global, relations: Catalogue) -> Result<Catalogue, ReadFault<Refusal>>
-    ensures { Gives result (checked relations) }
+fn read_document(alloc: Global, document: &Table) -> Result<Catalogue, CatalogueFault>
+    ensures { AnswersCatalogue result (document_says (Some (table_view document.now))) }
 {
-    match first_broken(alloc, relations.as_slice()) {
-        Ok(Some(refusal)) => Err(ReadFault::Broken(refusal)),
-        Ok(None) => Ok(relations),
-        Err(_) => Err(ReadFault::NoMemory),
+    match misformed_location(alloc, document)? {
+        Some(at) => Err(CatalogueFault::from(Broken { why: 2, at })),
+        None => check(alloc, relations_of(alloc, document)?),
     }
 }
 
-fn refused(why: u8, place: Place) -> Refusal
-    ensures { result ≡ refused why place }
+#[tactic(auto, unfolding(crate::specs::Catalogue::relations_of))]
+fn relations_of(alloc: Global, document: &Table) -> Result<Catalogue, AllocError>
+    ensures { IfOk result (λ relations. relations ≡ relations_of (table_view document.now)) }
 {
-    Refusal {
-        why,
-        part: place.part,
-        item: place.item,
+    match tables_of(document) {
+        Some(tables) => read_relations(alloc, tables),
+        None => Ok(Listed::new(alloc)),
     }
 }
 
-/// The first check that the relations break, at the least of its places.
-fn first_broken(alloc: Global, relations: &[Relation]) -> Result<Option<Refusal>, AllocError>
-    ensures { IfOk result (λ refusal. refusal ≡ first_broken (checks_of relations.now)) }
+fn check(alloc: Global, relations: Catalogue) -> Result<Catalogue, CatalogueFault>
+    ensures { AnswersCatalogue result (unless_broken (first_broken is_up_to (relation_checks relations)) relations) }
 {
-    if let Some(place) = doubled_place(alloc, relations)? {
-        return Ok(Some(refused(3, place)));
+    match first_broken(alloc, relations.as_slice())? {
+        Some(broken) => Err(CatalogueFault::from(broken)),
+        None => Ok(relations),
     }
-    if let Some(place) = limit_place(relations) {
-        return Ok(Some(refused(4, place)));
-    }
-    if let Some(place) = empty_place(relations) {
-        return Ok(Some(refused(5, place)));
-    }
-    match groupless_place(relations) {
-        Some(place) => Ok(Some(refused(6, place))),
-        None => Ok(None),
-    }
+}
+
+/// The first check that the relations break, at the least location that breaks it.
+fn first_broken(alloc: Global, relations: &[Relation]) -> Result<Option<Broken<Where>>, AllocError>
+    ensures { IfOk result (λ broken. broken ≡ first_broken is_up_to (relation_checks relations.now)) }
+{
+    let groupless = least_in_each::<Relation, GroupCheck>(alloc, relations)?;
+    let empty = least_in_each::<Relation, EmptyCheck>(alloc, relations)?;
+    let told = told_first(5, empty, told_first(6, groupless, None));
+    let told = told_first(4, limit_location(alloc, relations)?, told);
+    Ok(told_first(3, doubled_location(alloc, relations)?, told))
 }

@@ -18,6 +18,6 @@ mod text;
 
 pub use listing::Listed;
 pub use naming::{continues_name, is_name, starts_name};
-pub use reading::{ReadFault, Refusal};
+pub use reading::ReadFault;
 pub use saturating::raise;
 pub use text::Text;

@@ -5,17 +5,6 @@ ghost use Rattle.std.specs.Prelude.{◌≡◌};
 use std::alloc::{AllocError, AllocFailed};
 use thiserror::Error;
 
-/// Why and where a text is refused.
-///
-/// `why` is the number of the first check that is broken. What `part` and `item` count is said by the
-/// reader: for a catalogue the relation and its column or group.
-#[derive(Clone, Copy, Debug, PartialEq, Eq)]
-pub struct Refusal {
-    pub why: u8,
-    pub part: u64,
-    pub item: u64,
-}
-
 /// Why a reader gave no value: `P` tells where the text is broken. Readers pass want of memory on by `?`.
 #[derive(Debug, Drop, Error)]
 pub enum ReadFault<P> {
