@@ -1,7 +1,7 @@
-//! Catalogues by hand, with what they are read as or where they are refused.
+//! Catalogues by hand, with what they are read as or where they are refused; each limit at its edge.
 
 mod edges;
-mod places;
+mod refusals;
 
 use crate::{CatalogueFault, LONGEST_CATALOGUE, read_catalogue};
 use std::alloc::{AllocError, Global};
@@ -31,18 +31,11 @@ fn assert_accepted(rt: &impl Abort, alloc: Global, text: &[u8]) {
     }
 }
 
-/// Texts that are refused by one check, each with its place.
-fn assert_each(rt: &impl Abort, alloc: Global, why: u8, cases: &[(&str, u32, u32)]) {
-    for (text, relation, item) in cases {
-        assert_refused(rt, alloc, text.as_bytes(), refused(why, *relation, *item));
-    }
-}
-
 /// So many times the word, parted by commas.
 fn times(alloc: Global, count: usize, word: &str) -> Result<String, AllocError> {
     let mut text = String::new(alloc);
-    for place in 0..count {
-        if place > 0 {
+    for index in 0..count {
+        if index > 0 {
             text.push(',')?;
         }
         text.push_str(word)?;
@@ -88,22 +81,6 @@ groups = [["r.csv"]]
     assert_eq!(rt; city.groups.as_slice()[0].as_slice()[1].as_str(), "b.csv");
     assert_eq!(rt; catalogue.as_slice()[1].rows, 1000);
     Ok(())
-}
-
-#[test]
-fn refuses_what_is_not_toml(rt: HostRuntime) {
-    let alloc = rt.alloc();
-    let cases = [
-        ("relation = [", 0, 0),
-        ("[[relation]\nname = \"r\"", 0, 0),
-        (
-            "[[relation]]\nname = \"r\"\ncolumns = [\"x:int\"]\ngroups = []\nrows = 9223372036854775808",
-            0,
-            0,
-        ),
-    ];
-    assert_each(&rt, alloc, 1, &cases);
-    assert_refused(&rt, alloc, b"name = \"\xff\"", refused(1, 0, 0));
 }
 
 #[test]

@@ -1,5 +1,5 @@
--- Checks and where they are broken: the first broken check counts, at the least of its places. `P` says where: an offset,
--- or what a reader's own text has.
+-- Checks and where they are broken: the first broken check counts, at the least that breaks it. `P` says where: an offset,
+-- an index, or what a reader's own text has.
 use Rattle.std.specs.Prelude.{◌≡◌, ℕ, Bool, true, List, [], ◌∷◌, ◌⊎◌, Option, Some, None, Contains}
 use Rattle.std.specs.List.{AllByRecursion}
 use Rattle.text_reading.specs.Order.{least}

@@ -1,4 +1,4 @@
-//! Which fault is told where a text has several: the first broken check, at the least place that breaks it.
+//! Which fault is told where a text has several: the first broken check, at the least that breaks it.
 
 ghost use Rattle.std.specs.Prelude.{◌≡◌, Bool, List, nat_le};
 ghost use Rattle.text_reading.specs.Order.{IsOrder, least, lesser, nat_order};
@@ -36,7 +36,7 @@ impl Ordered for usize {
     }
 }
 
-/// A check, by its number, and the least place that breaks it.
+/// A check, by its number, and the least that breaks it.
 #[derive(Clone, Copy, Debug, PartialEq, Eq)]
 pub struct Broken<P> {
     pub why: u8,

@@ -1,10 +1,11 @@
 //! What the readers of texts share, over any language.
 //!
 //! **Refusals.** A reader has a list of checks, each with everywhere that it is broken (`specs/Checks.antt`, `Check`).
-//! What is told is the first broken check, at the least that breaks it (`first_broken`): a `Broken`, whose place is of any
-//! type with an order (`Ordered`). Code finds the least that breaks each check (`least`, `lesser`, `broken_if`,
-//! `index_past`), and puts the checks together from the last one on (`told_first`). `first_broken_is_exact` is the law of
-//! it. Words for what is broken in lists stand in `specs/Faults.antt`, the order in `specs/Order.antt`.
+//! What is told is the first broken check, at the least that breaks it (`first_broken`): a `Broken`, which says where by a
+//! value of any type with an order (`Ordered`): an offset, an index, or a reader's own. Code finds the least that breaks
+//! each check (`least`, `lesser`, `broken_if`, `index_past`), and puts the checks together from the last one on
+//! (`told_first`). `first_broken_is_exact` is the law of it. Words for what is broken in lists stand in
+//! `specs/Faults.antt`, the order in `specs/Order.antt`.
 //!
 //! **Tokens.** `name_in`, `name_run`, `digit_run`, `integer_run` and `is_blank` cut words out of bytes (`specs/Runs.antt`),
 //! and `quoted_text` reads a text in quotes (`specs/Quoted.antt`; its law is `quoted_is_read_back`).

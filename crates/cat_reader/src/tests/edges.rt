@@ -37,30 +37,22 @@ fn assert_edge(
 }
 
 #[test]
-fn counts_columns_groups_and_mirrors(rt: HostRuntime) -> Result<(), Fail> {
+fn bounds_columns_and_groups(rt: HostRuntime) -> Result<(), Fail> {
     let alloc = rt.alloc();
+    let column = ("'x:int'", "'x:int'");
+    let group = ("['a']", "['a']");
     let few = columns(alloc, 16)?;
     let many = columns(alloc, 17)?;
-    let group = ("['a']", "['a']");
     assert_edge(&rt, alloc, (few.as_str(), many.as_str()), group, 16)?;
-    let column = ("'x:int'", "'x:int'");
     let few = times(alloc, 16, "['a']")?;
     let many = times(alloc, 17, "['a']")?;
     assert_edge(&rt, alloc, column, (few.as_str(), many.as_str()), 16)?;
     let few = format!(in alloc; "['a'],[{}]", times(alloc, 8, "'m'")?)?;
     let many = format!(in alloc; "['a'],[{}]", times(alloc, 9, "'m'")?)?;
     assert_edge(&rt, alloc, column, (few.as_str(), many.as_str()), 1)?;
-    Ok(())
-}
-
-#[test]
-fn bounds_columns_and_locations(rt: HostRuntime) -> Result<(), Fail> {
-    let alloc = rt.alloc();
-    let group = ("['a']", "['a']");
     let few = format!(in alloc; "'x:int','{}:int'", long(alloc, 256)?)?;
     let many = format!(in alloc; "'x:int','{}:int'", long(alloc, 257)?)?;
     assert_edge(&rt, alloc, (few.as_str(), many.as_str()), group, 1)?;
-    let column = ("'x:int'", "'x:int'");
     let few = format!(in alloc; "['a'],['b','{}']", long(alloc, 4096)?)?;
     let many = format!(in alloc; "['a'],['b','{}']", long(alloc, 4097)?)?;
     assert_edge(&rt, alloc, column, (few.as_str(), many.as_str()), 1)?;
