@@ -1,5 +1,5 @@
 -- The relations that atoms ask for, and the kinds of their terms.
-use Rattle.std.specs.Prelude.{ℕ, Bool, true, false, not, List, [], ◌∷◌, flat_map, Option, Some, None}
+use Rattle.std.specs.Prelude.{Bool, true, false, not, List, [], ◌∷◌, flat_map, Option, Some, None}
 use Rattle.std.specs.List.{find}
 use Rattle.med_prelude.specs.Texts.{Bytes}
 use Rattle.cat_reader.specs.Relations.{same_text}

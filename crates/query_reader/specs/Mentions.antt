@@ -17,6 +17,6 @@ first_mentions (n ∷ more) = n ∷ filter (λ other. not (same_text n.0 other.0
 abbrev pub value_named : {V : Type 0} → List (Bytes × V) → Bytes → Option V
 value_named all name = option_map (λ n. n.1) (find (λ n. same_text name n.0) all)
 
--- the position of the name; how many there are, where it isn't among them
+-- the number of the name, counted from 0; how many there are, where it isn't among them
 abbrev pub number_named : {V : Type 0} → List (Bytes × V) → Bytes → ℕ
 number_named all name = position_or_len (λ n. same_text name n.0) all

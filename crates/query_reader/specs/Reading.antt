@@ -65,6 +65,7 @@ unless_broken query (Some broken) = Err broken
 unfoldable pub checked_query : List Relation → Pieces → Result Query (Broken ℕ)
 checked_query catalogue pieces = unless_broken (query_of_pieces catalogue pieces) (first_broken nat_le (checks_of catalogue pieces))
 
+-- the query that is written so; what breaks the grammar breaks the first check
 abbrev pub query_in : List Relation → Result Syntax ℕ → Result Query (Broken ℕ)
 query_in catalogue (Ok syntax) = checked_query catalogue (pieces_of syntax)
 query_in catalogue (Err at) = Err (broken_at 1 at)

@@ -16,8 +16,8 @@ fn refusal(rt: &impl Abort, alloc: Global, text: &[u8]) -> Option<u64> {
     }
 }
 
-/// The first token that continues nothing is told; then what stands behind the full stop, truth values in the place of
-/// names, signs and runs that are no tokens, and tokens that are cut.
+/// The first token that continues nothing is told; then what stands behind the full stop, truth values where a
+/// name is due, signs and runs that are no tokens, and tokens that are cut.
 #[test]
 fn refuses_the_first_token_that_continues_nothing(rt: HostRuntime) {
     let cases = [
