@@ -3,7 +3,7 @@ use Rattle.std.proofs.Common.{◌≡◌, ℕ, ◌≤◌, Bool, true, false, cond
 use Rattle.std.specs.List.{AllByRecursion, filter_map, cons_option}
 use Rattle.std.proofs.lemmas.List.{drop_all}
 use Rattle.answer_theory.specs.Bindings.{Binding, value_of}
-use Rattle.tuple_core.specs.Values.{FitsValue, FitsRow}
+use Rattle.tuple_core.specs.Values.{FitsValue, FitsRow, most_values}
 use Rattle.tuple_core.specs.declared.value.Value.{Value}
 
 value_fits : (b : Binding Value) → AllByRecursion (λ p. FitsValue p.1) b → (v : ℕ) → IfSome (value_of b v) FitsValue
@@ -24,7 +24,7 @@ head_fits b all (v ∷ vs) = go (value_of b v) (value_fits b all v) (head_fits b
     go (Some x) f ih = (let i = ih.0 in omega (arith, i), (f, ih.1))
 
 -- the values that were taken are a row, once none of the head's variables is left
-pub row_fits : (b : Binding Value) (vs : List ℕ) (xs : List Value) (k : ℕ) → AllByRecursion (λ p. FitsValue p.1) b → length vs ≤ 64 → length vs ≤ k
+pub row_fits : (b : Binding Value) (vs : List ℕ) (xs : List Value) (k : ℕ) → AllByRecursion (λ p. FitsValue p.1) b → length vs ≤ most_values → length vs ≤ k
     → xs ++ filter_map (value_of b) (drop k vs) ≡ filter_map (value_of b) vs → FitsRow xs
 row_fits b vs xs k all short done e =
     let whole : xs ≡ filter_map (value_of b) vs = sym (append-nil xs) ∙ ap (λ ws. xs ++ filter_map (value_of b) ws) (sym (drop_all k vs done)) ∙ e in

@@ -15,7 +15,7 @@ use std::alloc::{AllocError, Global};
 use tuple_core::Row;
 
 fn head_row(alloc: Global, head: &[u32], entries: &FirstEntries) -> Result<Row, AllocError>
-    requires short { length head.now ≤ 64 }
+    requires short { length head.now ≤ Row.MOST_VALUES }
     requires bound { AreBound (binding_of entries.now.entries.now) }
     ensures { IfOk result (λ row. row ≡ filter_map (value_of (binding_of entries.now.entries.now)) head.now) }
 {
@@ -35,7 +35,7 @@ pub(crate) fn keep_head(
     entries: &[Entry],
     found: &mut Vec<Row>,
 ) -> Result<(), AllocError>
-    requires head { length query.now.head ≤ 64 }
+    requires head { length query.now.head ≤ Row.MOST_VALUES }
     requires bound { AreBound (binding_of entries.now) }
     ensures { OnOk result (found.new.items ≡ found.old.items ++ only (all_hold query.now.comparisons (binding_of entries.now)) (head_row query.now.head (binding_of entries.now))) }
 {

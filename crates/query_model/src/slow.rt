@@ -20,7 +20,7 @@ fn walk<'a>(
     entries: &mut Vec<Entry<'a>>,
     found: &mut Vec<Row>,
 ) -> Result<(), AllocError>
-    requires head { length query.now.head ≤ 64 }
+    requires head { length query.now.head ≤ Row.MOST_VALUES }
     requires bound { AreBound (binding_of entries.old.items) }
     ensures found { OnOk result (found.new.items ≡ found.old.items ++ heads_from query.now (binding_of entries.old.items) (items atoms.now arrivals.now)) }
     ensures entries { OnOk result (binding_of entries.new.items ≡ binding_of entries.old.items) }
@@ -49,7 +49,7 @@ fn distinct_rows(found: Vec<Row>) -> Result<Rows, AllocError>
 
 /// The distinct rows of the query's answer, in their order. It takes a row of each atom in turn, in each way.
 pub fn slow_answer(alloc: Global, query: &Query, arrivals: &Arrivals) -> Result<Rows, AllocError>
-    requires head { length query.now.head ≤ 64 }
+    requires head { length query.now.head ≤ Row.MOST_VALUES }
     ensures { IfOk result (λ rows. rows ≡ answer_of query.now arrivals.now) }
 {
     let mut entries = Vec::new(alloc);

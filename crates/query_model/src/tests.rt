@@ -95,7 +95,7 @@ fn answer(alloc: Global, case: &Case) -> Result<Rows, Fail> {
     for lines in case.arrivals {
         arrivals.push(rows(alloc, lines)?)?;
     }
-    if query.head.len() > 64 {
+    if query.head.len() > Row::MOST_VALUES {
         return Err(Fail::from("too many variables in the head"));
     }
     Ok(slow_answer(alloc, &query, &arrivals)?)
