@@ -1,5 +1,5 @@
 -- What a search in a list finds.
-use Rattle.std.proofs.Common.{◌<◌, Bool, true, false, List, [], ◌∷◌, arith}
+use Rattle.std.proofs.Common.{Bool, true, false, List, [], ◌∷◌, arith}
 use Rattle.std.specs.Prelude.{All, find, cond, Some, IfSome}
 use Rattle.std.proofs.lemmas.List.Elements.{All-tail}
 
@@ -8,6 +8,6 @@ pub holds_of_found : {X : Type 0} → (P : X → Type 0) (test : X → Bool) (xs
 holds_of_found P test [] all = tt
 holds_of_found P test (x ∷ xs) all =
     elim (test x) as (λ b. IfSome (cond b (Some x) (find test xs)) P) [
-      true ↦ all 0 x (omega arith)
-    | false ↦ holds_of_found P test xs (All-tail P x xs all)
+      | true ↦ all 0 x (omega arith)
+      | false ↦ holds_of_found P test xs (All-tail P x xs all)
     ]

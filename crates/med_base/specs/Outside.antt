@@ -1,5 +1,5 @@
 -- What the answers of the outside say, each by cases on the answer.
-use Rattle.std.specs.Prelude.{◌≡◌, ⊤, ℕ, ◌+◌, ◌<◌, ◌≤◌, ◌⊎◌, ◌^◌, min, List, [], ◌∷◌, ◌++◌, length, take, Option, Some, IfSome, Result, Ok, Err}
+use Rattle.std.specs.Prelude.{◌≡◌, ⊤, ℕ, ◌+◌, ◌<◌, ◌≤◌, ◌⊎◌, ◌^◌, min, List, [], ◌∷◌, ◌++◌, length, take, Some, IfSome, Result, Ok, Err}
 use Rattle.med_prelude.specs.Counts.{greatest_count, Rose}
 use Rattle.med_prelude.specs.Texts.{Bytes, ToldBytes, IsWhole}
 use Rattle.med_base.specs.declared.outside.OutsideFault.{OutsideFault}

@@ -1,5 +1,5 @@
 -- What a spill file holds, and what the answers of a file and of a set of files say.
-use Rattle.std.specs.Prelude.{◌≡◌, ⊤, ℕ, ◌+◌, ◌-◌, ◌<◌, ◌≤◌, ◌⊎◌, min, List, [], ◌∷◌, ◌++◌, length, take, drop, Option, Some, None, IfSome, Result, Ok, Err}
+use Rattle.std.specs.Prelude.{◌≡◌, ⊤, ℕ, ◌+◌, ◌-◌, ◌<◌, ◌≤◌, ◌⊎◌, min, List, [], ◌∷◌, ◌++◌, length, take, drop, Some, None, IfSome, Result, Ok, Err}
 use Rattle.med_prelude.specs.Counts.{Rose}
 use Rattle.med_prelude.specs.Texts.{Bytes, ToldBytes, grown}
 use Rattle.med_base.specs.declared.outside.OutsideFault.{OutsideFault}

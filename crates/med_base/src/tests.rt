@@ -1,8 +1,8 @@
 //! Each outside object on its happy path, and what its script makes it answer.
 
 use crate::{
-    CalmOpener, MemOpener, MemShelf, MemSink, MemSource, Opener, OutsideFault, Pull,
-    Script, Shelf, Sink, Site, Source, Stored, Turn,
+    CalmOpener, MemOpener, MemShelf, MemSink, MemSource, Opener, OutsideFault, Pull, Script, Shelf,
+    Sink, Site, Source, Stored, Turn,
 };
 use med_prelude::Text;
 use std::alloc::{AllocError, Global};
