@@ -5,7 +5,7 @@ use Rattle.std.specs.Option.{is_some, IfSome}
 use Rattle.std.proofs.lemmas.Bool.{false≢true, and_parts, and_from, or_right}
 use Rattle.answer_theory.specs.Bindings.{Binding, has_entry, meet, value_of}
 use Rattle.answer_theory.specs.Solutions.{names, key}
-use Rattle.answer_theory.specs.Rows.{over, values, AreDistinct, shared_variables, both_join}
+use Rattle.answer_theory.specs.Rows.{over, AreDistinct, shared_variables, both_join}
 use Rattle.answer_theory.proofs.Bools.{nat_eq_self}
 use Rattle.answer_theory.proofs.Lists.{all_kept, all_filter}
 use Rattle.answer_theory.proofs.Rows.{over_bound, met_keys, keys_meet}

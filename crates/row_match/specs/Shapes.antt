@@ -5,7 +5,6 @@ use Rattle.answer_theory.specs.Bindings.{value_of}
 use Rattle.answer_theory.specs.Solutions.{names}
 use Rattle.answer_theory.specs.Rows.{over, AreDistinct, glued_variables, shared_variables}
 use Rattle.tuple_core.specs.Values.{RowValues}
-use Rattle.tuple_core.specs.declared.value.Value.{Value}
 use Rattle.row_match.specs.Patterns.{most_variables, position_of}
 use Rattle.row_match.specs.declared.shape.Side.{Side}
 use Rattle.row_match.specs.declared.shape.Side.TheVariants as side
