@@ -1,5 +1,6 @@
 //! What a catalogue is, and how its text is refused.
 
+ghost use Rattle.cat_reader.specs.Catalogue.{greatest_told};
 ghost use Rattle.std.specs.Prelude.{◌≡◌, min};
 
 use crate::locations::Where;
@@ -20,6 +21,7 @@ pub struct Relation {
     pub rows: i64,
 }
 
+/// The relations of a catalogue, in the order of its text.
 pub type Catalogue = Listed<Relation>;
 
 /// Why a text gave no catalogue.
@@ -48,8 +50,9 @@ impl From<Broken<Where>> for CatalogueFault {
     }
 }
 
+/// The number that is told of an index.
 fn capped(index: usize) -> u32
-    ensures { result ≡ min index 4294967295 }
+    ensures { result ≡ min index greatest_told }
 {
     index.min(u32::MAX as usize) as u32
 }

@@ -16,6 +16,7 @@ use toml_tables::{array_at, text_at, value_at};
 /// The estimate where none is given.
 const DEFAULT_ROWS: i64 = 1000;
 
+/// The table's name, where there is one and it is a name.
 pub fn name_of(table: &Table) -> Option<&str>
     ensures { option_copied result ≡ name_of (table_view table.now) }
 {
@@ -25,6 +26,7 @@ pub fn name_of(table: &Table) -> Option<&str>
     }
 }
 
+/// The table's estimate, where it is an integer or none is given.
 pub fn rows_of(table: &Table) -> Option<i64>
     ensures { result ≡ rows_of (table_view table.now) }
 {
