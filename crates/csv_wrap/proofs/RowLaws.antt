@@ -3,7 +3,7 @@ use Rattle.std.proofs.Common.{◌≡◌, ℕ, suc, ◌+◌, ◌==◌, Bool, true
 use Rattle.std.proofs.lemmas.Bool.{eqb-true}
 use Rattle.std.proofs.lemmas.List.{length-take, take-take}
 use Rattle.std.proofs.lemmas.Slice.Zip.{length-zip}
-use Rattle.std.specs.List.{AllByRecursion, zip}
+use Rattle.std.specs.List.{zip}
 use Rattle.std.specs.Prelude.{nat_eq}
 use Rattle.std.specs.Cmp.Lexicographic.{pointwise}
 use Rattle.med_prelude.specs.Reading.{◌>>=◌, or_at, read_each, with_front}
@@ -100,7 +100,7 @@ record_fills : (columns : List Column) (k : ℕ) (found : Option (List (List ℕ
 record_fills columns k None row e = cc
 record_fills columns k (Some fields) row e =
     elim (k == 0) as (λ x. (if x then (if is_header columns fields then read.Header else read.Bad (fault.Header (named_count columns fields)))
-        else if length fields == length columns then values_read k (values_of columns fields) else read.Bad (fault.BadRecord k)) ≡ read.Row row → length row ≡ length columns) [
+    else if length fields == length columns then values_read k (values_of columns fields) else read.Bad (fault.BadRecord k)) ≡ read.Row row → length row ≡ length columns) [
       | true ↦ elim (is_header columns fields) as (λ y. (if y then read.Header else read.Bad (fault.Header (named_count columns fields))) ≡ read.Row row → length row ≡ length columns) [ true ↦ λ no. cc | false ↦ λ no. cc ]
       | false ↦ elim (length fields == length columns) as (λ y. (length fields == length columns) ≡ y → (if y then values_read k (values_of columns fields) else read.Bad (fault.BadRecord k)) ≡ read.Row row → length row ≡ length columns) [
         | true ↦ λ same is. values_fill k columns fields (values_of columns fields) row refl (eqb-true (length fields) (length columns) same) is

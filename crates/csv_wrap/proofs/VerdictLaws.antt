@@ -1,5 +1,5 @@
 -- No bytes read as the failure of an opening or of a pull.
-use Rattle.std.proofs.Common.{◌≡◌, ◌+◌, ◌==◌, ◌&&◌, ℕ, Bool, true, false, List, [], ◌∷◌, ◌++◌, length, Option, Some, None, IfSome, Result, Ok, Err, refl, ap, sym, subst, if◌then◌else◌}
+use Rattle.std.proofs.Common.{◌≡◌, ◌+◌, ◌==◌, ◌&&◌, ℕ, Bool, true, false, List, [], ◌∷◌, ◌++◌, length, Option, Some, None, IfSome, Result, Ok, Err, refl, ap, subst, if◌then◌else◌}
 use Rattle.med_base.specs.declared.member.MemberFault.{MemberFault}
 use Rattle.med_base.specs.declared.member.MemberFault.TheVariants as fault
 use Rattle.tuple_core.specs.declared.columns.Column.{Column}
@@ -27,7 +27,7 @@ record_bytes : (columns : List Column) (k : ℕ) (found : Option (List (List ℕ
 record_bytes columns k None = elim (k == 0) as (λ (b : Bool). ReadsBytes (read.Bad (if b then fault.Header 0 else fault.BadRecord k))) [ true ↦ tt | false ↦ tt ]
 record_bytes columns k (Some fields) =
     elim (k == 0) as (λ (b : Bool). ReadsBytes (if b then (if is_header columns fields then read.Header else read.Bad (fault.Header (named_count columns fields)))
-        else if length fields == length columns then values_read k (values_of columns fields) else read.Bad (fault.BadRecord k))) [
+    else if length fields == length columns then values_read k (values_of columns fields) else read.Bad (fault.BadRecord k))) [
       | true ↦ elim (is_header columns fields) as (λ (b : Bool). ReadsBytes (if b then read.Header else read.Bad (fault.Header (named_count columns fields)))) [ true ↦ tt | false ↦ tt ]
       | false ↦ elim (length fields == length columns) as (λ (b : Bool). ReadsBytes (if b then values_read k (values_of columns fields) else read.Bad (fault.BadRecord k))) [
         | true ↦ values_bytes k (values_of columns fields)

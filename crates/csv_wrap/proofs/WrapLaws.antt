@@ -11,7 +11,6 @@ use Rattle.med_prelude.specs.Texts.{IsWhole}
 use Rattle.tuple_core.specs.declared.columns.Column.{Column}
 use Rattle.tuple_core.specs.declared.value.Value.{Value}
 use Rattle.csv_frame.specs.Frames.{frames}
-use Rattle.csv_wrap.specs.Rows.{source_rows, source_verdict}
 use Rattle.csv_wrap.specs.Readings.{Reading, rows_then, clean_reading, failed_reading, read_frames, source_reading}
 use Rattle.csv_wrap.specs.Sound.{FailedByBytes, FailedByRead, IsOfBytes, IsSoundEnd, IsSoundSoFar, is_all, taken_rows}
 use Rattle.csv_wrap.proofs.VerdictLaws.{bad_kept, not_read}

@@ -1,5 +1,5 @@
 -- What a call that pulls does to its source.
-use Rattle.std.specs.Prelude.{◌≡◌, ⊤, ℕ, ◌+◌, ◌<◌, ◌≤◌, ◌⊎◌, Bool, true, false, List, [], ◌++◌, length, take, Option, Some, None, IsSome}
+use Rattle.std.specs.Prelude.{◌≡◌, ⊤, ℕ, ◌+◌, ◌<◌, ◌≤◌, ◌⊎◌, true, false, [], ◌++◌, length, take, None, IsSome}
 use Rattle.med_base.specs.declared.member.MemberFault.TheVariants as fault
 use Rattle.med_base.specs.declared.outside.source.Source.{Ghosts as Source}
 use Rattle.med_base.specs.declared.outside.source.Pull.{Pull}

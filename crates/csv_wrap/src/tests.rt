@@ -175,7 +175,11 @@ fn rows_and_faults_of_texts_in_pieces(rt: HostRuntime) -> Result<(), Fail> {
     let alloc = rt.alloc();
     let texts: [(&[u8], &[&[u8]], Option<MemberFault>); 8] = [
         (b"x\nparis\noslo", &[b"paris", b"oslo"], None),
-        (b"\n\xEF\xBB\xBFx\r\n\r\nparis\n\noslo\r\n", &[b"paris", b"oslo"], None),
+        (
+            b"\n\xEF\xBB\xBFx\r\n\r\nparis\n\noslo\r\n",
+            &[b"paris", b"oslo"],
+            None,
+        ),
         (b"x\r\n\"a \"\"b\"\"\nc\"\r\n", &[b"a \"b\"\nc"], None),
         (
             b"x\na\n\xEF\xBB\xBF\xEF\xBB\xBFb\nc\n\xEF\xBB\xBF\n\"d\"\n",

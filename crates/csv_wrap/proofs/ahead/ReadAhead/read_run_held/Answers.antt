@@ -1,5 +1,5 @@
-use Rattle.std.proofs.Common.{◌≡◌, ◌+◌, ◌≤◌, ◌++◌, ◌∙◌, ℕ, Bool, List, None, length, take, drop, arith, refl, sym, ap, subst, true}
-use Rattle.std.proofs.lemmas.List.{length-drop, length-take-le, take_rest}
+use Rattle.std.proofs.Common.{◌≡◌, ◌≤◌, ◌++◌, ◌∙◌, ℕ, Bool, List, None, length, take, drop, arith, refl, sym, ap, subst, true}
+use Rattle.std.proofs.lemmas.List.{length-drop, length-take-le}
 use Rattle.tuple_core.specs.declared.columns.Column.{Column}
 use Rattle.csv_frame.specs.Frames.{GoesOn, frames}
 use Rattle.csv_wrap.specs.Ahead.{Ahead, IsRunAhead, KeepsFuture, ReadsFrames}
@@ -14,8 +14,7 @@ invariant_of-self c =
     let ahead : IsRunAhead held c.args.count = subst (λ (a : Ahead). IsRunAhead a.framed c.args.count) (sym c.self.view_is) c.requires.run in
     let reads : ReadsFrames inside.columns (frames run true) inside.rows.items inside.number c.read_run.new.rows.items c.in-Ok.bad c.read_run.new.number
     = subst (λ (cs : List Column). ReadsFrames cs (frames run true) inside.rows.items inside.number c.read_run.new.rows.items c.in-Ok.bad c.read_run.new.number) c.as_slice.ensures c.in-Ok.ensures.read in
-    let short : length run ≤ c.args.count = rw c.rest.ensures (omega (arith, length-take-le c.args.count held.rest ahead.inside)) in
-    (
+    let short : length run ≤ c.args.count = rw c.rest.ensures (omega (arith, length-take-le c.args.count held.rest ahead.inside)) in (
       reads_fill (frames run true) inside.columns inside.rows.items c.read_run.new.rows.items inside.number c.read_run.new.number c.in-Ok.bad reads c.self.invariant.0,
       omega arith,
       rw c.skip.ensures.at (omega (arith, c.read_run.ensures.number, short)),

@@ -1,6 +1,5 @@
-use Rattle.std.proofs.Common.{◌≡◌, false, true, [], Some, None, refl, ap, arith, sym, ◌∙◌}
+use Rattle.std.proofs.Common.{◌≡◌, false, true, [], refl, ap, arith, sym, ◌∙◌}
 use Rattle.std.proofs.lemmas.Grind.{common_steps}
-use Rattle.med_base.specs.declared.member.MemberFault.TheVariants as fault
 use Rattle.csv_wrap.specs.Ahead.{Ahead}
 use Rattle.csv_wrap.specs.Wrapped.{Wrapped}
 use Rattle.csv_wrap.proofs.AheadLaws.{frames_none}
