@@ -9,6 +9,7 @@ use Rattle.med_base.specs.declared.outside.source.Source.{Ghosts as Source}
 use Rattle.med_prelude.specs.Counts.{Rose}
 use Rattle.tuple_core.specs.declared.columns.Column.{Column}
 use Rattle.tuple_core.specs.declared.value.Value.{Value}
+use Rattle.med_prelude.specs.Texts.{Bytes, ToldBytes}
 use Rattle.med_top.specs.Atoms.{AreAllMembers, EndsAtoms, all_arrivals, arrivals_for, is_of}
 use Rattle.med_top.specs.Members.{AreMembers, EndsRun, HasEnded, HasFailed, HasStalled, IsIdle, StopsAt, arrivals}
 use Rattle.med_top.specs.declared.groups.RunEnd.{RunEnd}
@@ -46,7 +47,7 @@ more_differs a b e = grind (arith, nat_tests)
 
 -- ---- the members of each atom, with the rows that came for it
 
-abbrev pub AreRead : {S M : Type 0} → Source S M → (List ℕ → Option (List ℕ)) → ℕ → List Target → List (MemberEnd S) → List (List Row) → Type 0
+abbrev pub AreRead : {S M : Type 0} → Source S M → (Bytes → ToldBytes) → ℕ → List Target → List (MemberEnd S) → List (List Row) → Type 0
 AreRead source told atom [] members rows = (members ≡ []) × (rows ≡ [])
 AreRead {S} source told atom (target ∷ targets) members rows =
     (own : List (MemberEnd S)) × (others : List (MemberEnd S)) × (first : List Row) × (more : List (List Row))
@@ -54,8 +55,8 @@ AreRead {S} source told atom (target ∷ targets) members rows =
     × IfSome (arrivals source target.columns own) (λ accepted. first ≡ accepted)
     × AreRead source told (atom + 1) targets others more
 
-module _ {S M : Type 0} (source : Source S M) (told : List ℕ → Option (List ℕ)) where
-  named_so : (columns : List Column) (atom group : ℕ) (locations : List (List ℕ)) (members : List (MemberEnd S))
+module _ {S M : Type 0} (source : Source S M) (told : Bytes → ToldBytes) where
+  named_so : (columns : List Column) (atom group : ℕ) (locations : List Bytes) (members : List (MemberEnd S))
       → AreMembers source columns told atom group locations members → AllByRecursion (λ (m : MemberEnd S). m.name.atom ≡ atom) members
   named_so columns atom group [] [] are = tt
   named_so columns atom group [] (member ∷ members) are = absurd are

@@ -9,12 +9,14 @@ use Rattle.csv_wrap.specs.Wrapped.{SameSource, SoundAs, Wrapped}
 use Rattle.med_base.specs.declared.member.MemberFault.{MemberFault}
 use Rattle.med_base.specs.declared.member.MemberState.{MemberState}
 use Rattle.med_base.specs.declared.names.MemberName.{MemberName}
+use Rattle.med_prelude.specs.Texts.{Bytes, ToldBytes}
+use Rattle.tuple_core.specs.Values.{RowList}
 use Rattle.med_top.specs.Taking.{HasTaken}
 use Rattle.med_base.specs.declared.outside.source.Source.{Ghosts as Source}
 use Rattle.med_prelude.specs.Counts.{Rose}
 use Rattle.tuple_core.specs.declared.columns.Column.{Column}
 use Rattle.tuple_core.specs.declared.value.Value.{Value}
-use Rattle.med_top.specs.Members.{Advances, AreMembers, EndsMember, EndsRun, HasEnded, HasFailed, HasStalled, IsIdle, IsMemberOf, StopsAt, arrivals, idle, member_of, with_more}
+use Rattle.med_top.specs.Members.{Advances, AreMembers, EndsMember, EndsRun, HasEnded, HasFailed, HasStalled, IsIdle, IsMemberOf, StopsAt, arrivals, idle_member, member_of, with_more}
 use Rattle.med_top.specs.declared.groups.GroupsRead.{GroupsRead}
 use Rattle.med_top.specs.declared.groups.RunEnd.{RunEnd}
 use Rattle.med_top.specs.declared.groups.RunEnd.TheVariants as run
@@ -27,7 +29,7 @@ pub rose_before : (first old new : ℕ) → first ≤ old → Rose old new → R
 rose_before first old new lower rose = grind (arith)
 
 -- a member that accepted what its wrapper gave
-pub member_sound : {S M : Type 0} (source : Source S M) (columns : List Column) (first : S) (atom group : ℕ) (at : List ℕ) (w : Wrapped S) (before rows : List (List Value)) (state : MemberState) (why : Option MemberFault) (accepted : ℕ) (name : MemberName) (member : MemberEnd S)
+pub member_sound : {S M : Type 0} (source : Source S M) (columns : List Column) (first : S) (atom group : ℕ) (at : Bytes) (w : Wrapped S) (before rows : RowList) (state : MemberState) (why : Option MemberFault) (accepted : ℕ) (name : MemberName) (member : MemberEnd S)
     → member ≡ record { name = name; location = at; state = state; fault = why; accepted = accepted; source = Some w.source }
     → name ≡ member_of atom group → source.location first ≡ at → SameSource source first w.source → w.ahead.columns ≡ columns
     → HasTaken source w before rows → accepted + length before ≡ length rows → SoundAs source w state why → IsMemberOf source columns (λ _. source.whole first) atom group at member
@@ -47,17 +49,17 @@ at_counts (Ok x) P old new h = h old new
 at_counts (Err e) P old new h = tt
 
 -- the rows of one member more
-with_more_twice : (a b c : Option (List (List Value))) → with_more a (with_more b c) ≡ with_more (with_more a b) c
+with_more_twice : (a b c : Option RowList) → with_more a (with_more b c) ≡ with_more (with_more a b) c
 with_more_twice None b c = refl
 with_more_twice (Some x) None c = refl
 with_more_twice (Some x) (Some y) None = refl
 with_more_twice (Some x) (Some y) (Some z) = rw (append_assoc x y z) refl
 
-with_nothing : (a : Option (List (List Value))) → with_more a (Some []) ≡ a
+with_nothing : (a : Option RowList) → with_more a (Some []) ≡ a
 with_nothing None = refl
 with_nothing (Some x) = rw (append-nil x) refl
 
-nothing_with : (a : Option (List (List Value))) → with_more (Some []) a ≡ a
+nothing_with : (a : Option RowList) → with_more (Some []) a ≡ a
 nothing_with None = refl
 nothing_with (Some x) = refl
 
@@ -68,14 +70,14 @@ arrivals_more source columns (first ∷ members) member =
     ap (with_more (accepted_rows source columns first)) (arrivals_more source columns members member)
     ∙ with_more_twice (accepted_rows source columns first) (arrivals source columns members) (accepted_rows source columns member)
 
-told_more : (before accepted : Option (List (List Value))) (rows more : List (List Value))
+told_more : (before accepted : Option RowList) (rows more : RowList)
     → IfSome before (λ all. rows ≡ all) → IfSome accepted (λ own. more ≡ rows ++ own) → IfSome (with_more before accepted) (λ all. more ≡ all)
 told_more None accepted rows more front own = tt
 told_more (Some all) None rows more front own = tt
 told_more (Some all) (Some last) rows more front own = own ∙ ap (λ start. start ++ last) front
 
 -- the next member ran, behind members that were all read to their ends
-pub run_on : {S M : Type 0} (source : Source S M) (columns : List Column) (first old new : ℕ) (members : List (MemberEnd S)) (rows more : List (List Value)) (member : MemberEnd S) (end : RunEnd)
+pub run_on : {S M : Type 0} (source : Source S M) (columns : List Column) (first old new : ℕ) (members : List (MemberEnd S)) (rows more : RowList) (member : MemberEnd S) (end : RunEnd)
     → first ≤ old → EndsRun source columns first old members rows run.Settled → EndsMember source columns old new rows more member end
     → EndsRun source columns first new (members ++ member ∷ []) more end
 run_on source columns first old new members rows more member run.Settled lower so_far ends = (
@@ -107,32 +109,32 @@ stays_stopped members stops member idle at = record {
 }
 
 -- the next member was left alone, behind one that failed or stalled
-pub starved_on : {S M : Type 0} (source : Source S M) (columns : List Column) (first old : ℕ) (members : List (MemberEnd S)) (rows : List (List Value)) (member : MemberEnd S) (end : RunEnd)
+pub starved_on : {S M : Type 0} (source : Source S M) (columns : List Column) (first old : ℕ) (members : List (MemberEnd S)) (rows : RowList) (member : MemberEnd S) (end : RunEnd)
     → (end ≡ run.Settled → ⊥) → IsIdle member → EndsRun source columns first old members rows end → EndsRun source columns first old (members ++ member ∷ []) rows end
 starved_on source columns first old members rows member run.Settled runs idle so_far = absurd (runs refl)
 starved_on source columns first old members rows member (run.Starved group) runs idle so_far = stays_stopped members (HasFailed first old group) member idle so_far
 starved_on source columns first old members rows member run.Stalled runs idle so_far = stays_stopped members (HasStalled source) member idle so_far
 
 -- the next member is listed as one that was never opened
-pub left_alone : {S M E : Type 0} (source : Source S M) (columns : List Column) (told : List ℕ → Option (List ℕ)) (name : MemberName) (at : List ℕ) (faults : ℕ) (asked : List (List ℕ)) (given : List M) (old new : GroupsRead S) (result : Result (Unit {0}) E)
+pub left_alone : {S M E : Type 0} (source : Source S M) (columns : List Column) (told : Bytes → ToldBytes) (name : MemberName) (at : Bytes) (faults : ℕ) (asked : List Bytes) (given : List M) (old new : GroupsRead S) (result : Result (Unit {0}) E)
     → name ≡ member_of name.atom name.group → (old.end ≡ run.Settled → ⊥)
-    → OnOk result (new.members ≡ old.members ++ idle name at ∷ []) → new.rows ≡ old.rows → new.end ≡ old.end
+    → OnOk result (new.members ≡ old.members ++ idle_member name at ∷ []) → new.rows ≡ old.rows → new.end ≡ old.end
     → OnOk result (Advances source columns told name.atom name.group at (record { faults = record { old = faults; new = faults }; asked = record { old = asked; new = asked }; given = record { old = given; new = given } }) old new)
 left_alone source columns told name at faults asked given old new (Err e) named runs grown rows end = tt
 left_alone source columns told name at faults asked given old new (Ok done) named runs grown rows end = record {
-  member = idle name at;
+  member = idle_member name at;
   grown = grown;
   is_member = record { name = named; location = refl; sound = (refl, tt); whole = tt };
   asked = sym (append-nil asked);
   given = sym (append-nil given);
   stays = λ _. ((refl, refl), end);
-  ends = λ first lower so_far. rw (grown, rows, end) (starved_on source columns first faults old.members old.rows.items (idle name at) old.end runs (refl, refl) so_far);
+  ends = λ first lower so_far. rw (grown, rows, end) (starved_on source columns first faults old.members old.rows.items (idle_member name at) old.end runs (refl, refl) so_far);
 }
 
 pub asked_more : {S : Type 0} (members more : List (MemberEnd S)) → asked_locations (members ++ more) ≡ asked_locations members ++ asked_locations more
 asked_more [] more = refl
 asked_more (member ∷ members) more =
-    let own : List (List ℕ) = if was_asked member.source member.state then member.location ∷ [] else [] in
+    let own : List Bytes = if was_asked member.source member.state then member.location ∷ [] else [] in
     ap (λ rest. own ++ rest) (asked_more members more) ∙ sym (append_assoc own (asked_locations members) (asked_locations more))
 
 pub given_more : {S M : Type 0} (source : Source S M) (members more : List (MemberEnd S)) → given_marks source (members ++ more) ≡ given_marks source members ++ given_marks source more
@@ -150,7 +152,7 @@ drop_at (y ∷ ys) zero x within is = ap (λ first. first ∷ ys) (sym is)
 drop_at (y ∷ ys) (suc place) x within is = drop_at ys place x (omega (arith, within)) is
 
 -- the members so far have one more behind them, whatever the others will be
-pub members_on : {S M : Type 0} (source : Source S M) (columns : List Column) (told : List ℕ → Option (List ℕ)) (atom : ℕ) (locations : List (List ℕ)) (place : ℕ) (at : List ℕ) (name : MemberName) (member : MemberEnd S) (old new : List (MemberEnd S))
+pub members_on : {S M : Type 0} (source : Source S M) (columns : List Column) (told : Bytes → ToldBytes) (atom : ℕ) (locations : List Bytes) (place : ℕ) (at : Bytes) (name : MemberName) (member : MemberEnd S) (old new : List (MemberEnd S))
     → place < length locations → at ≡ slice_index_or locations place at → name ≡ member_of atom (place + 1) → IsMemberOf source columns told name.atom name.group at member → new ≡ old ++ member ∷ []
     → ((more : List (MemberEnd S)) → AreMembers source columns told atom (place + 1) (drop place locations) more → AreMembers source columns told atom 1 locations (old ++ more))
     → (more : List (MemberEnd S)) → AreMembers source columns told atom (place + 1 + 1) (drop (place + 1) locations) more → AreMembers source columns told atom 1 locations (new ++ more)
@@ -159,7 +161,7 @@ members_on source columns told atom locations place at name member old new withi
     rw (grown, append_assoc old (member ∷ []) more) (so_far (member ∷ more) (rw (drop_at locations place at within is) (subst (λ n. IsMemberOf source columns told n.atom n.group at member) named is_member, subst (λ n. AreMembers source columns told atom (place + 1 + 1) (drop n locations) more) next behind)))
 
 -- all locations have their members
-pub members_all : {S M : Type 0} (source : Source S M) (columns : List Column) (told : List ℕ → Option (List ℕ)) (atom : ℕ) (locations : List (List ℕ)) (place : ℕ) (members : List (MemberEnd S))
+pub members_all : {S M : Type 0} (source : Source S M) (columns : List Column) (told : Bytes → ToldBytes) (atom : ℕ) (locations : List Bytes) (place : ℕ) (members : List (MemberEnd S))
     → length locations ≤ place
     → ((more : List (MemberEnd S)) → AreMembers source columns told atom (place + 1) (drop place locations) more → AreMembers source columns told atom 1 locations (members ++ more))
     → AreMembers source columns told atom 1 locations members

@@ -1,25 +1,24 @@
 -- From the end of a run to what holds at the call's status.
-use Rattle.std.proofs.Common.{◌≡◌, ℕ, List, [], ◌∷◌, ◌++◌, take, Option, Some, None, Result, Ok, Err, IfSome, ap, refl}
+use Rattle.std.proofs.Common.{◌≡◌, List, [], ◌∷◌, Option, Some, None, Err, IfSome, ap, refl}
 use Rattle.std.specs.List.{AllByRecursion}
 use Rattle.med_base.specs.declared.status.Status.{Status}
 use Rattle.med_base.specs.declared.status.Status.TheVariants as status
-use Rattle.med_base.specs.declared.status.ShelfFile.TheVariants as file
+use Rattle.med_prelude.specs.Texts.{Bytes}
 use Rattle.tuple_core.specs.declared.value.Value.{Value}
+use Rattle.tuple_core.specs.Values.{RowList}
 use Rattle.med_top.specs.Command.{command_of, names_of}
-use Rattle.med_top.specs.Loading.{AsksLoad, AsksSome}
-use Rattle.query_reader.specs.Answers.{answer_text}
-use Rattle.query_reader.specs.declared.query.Query.{Query}
+use Rattle.med_top.specs.Loading.{AsksSome, FailsToLoad, IfShelfFails}
+use Rattle.query_core.specs.Answers.{answer_text}
+use Rattle.query_core.specs.declared.query.Query.{Query}
 use Rattle.med_top.specs.Atoms.{AreAllMembers, EndsAtoms, all_arrivals}
-use Rattle.med_top.specs.Members.{HasEnded}
-use Rattle.med_top.specs.Outcomes.{Accepts, Call, Finishes, FinishesAnswer, HoldsAt}
+use Rattle.med_top.specs.Members.{Change, HasEnded}
+use Rattle.med_top.specs.Outcomes.{Accepts, Call, Finishes, FinishesAnswer, HoldsAt, RunsNothing}
 use Rattle.med_top.specs.declared.groups.RunEnd.{RunEnd}
 use Rattle.med_top.specs.declared.groups.RunEnd.TheVariants as run
-use Rattle.med_top.specs.declared.load.LoadFault.{LoadFault}
-use Rattle.med_top.specs.declared.load.LoadFault.TheVariants as load
 use Rattle.med_top.specs.declared.task.Task.{Task}
 
 -- the text of the answer over the rows is that over the accepted ones, which are the same
-same_answer : (query : Query) (accepted : Option (List (List (List Value)))) (rows : List (List (List Value)))
+same_answer : (query : Query) (accepted : Option (List RowList)) (rows : List RowList)
     → IfSome accepted (λ told. rows ≡ told) → IfSome accepted (λ told. answer_text query rows ≡ answer_text query told)
 same_answer query None rows same = tt
 same_answer query (Some told) rows same = ap (answer_text query) same
@@ -27,7 +26,7 @@ same_answer query (Some told) rows same = ap (answer_text query) same
 module _ {S M : Type 0} (call : Call S M) (task : Task)
     (accepts : Accepts call.words call.texts task)
     (members : AreAllMembers call.source call.sources 1 task.targets call.members) where
-  settled : (rows : List (List (List Value))) (ends : Status) → AllByRecursion HasEnded call.members
+  settled : (rows : List RowList) (ends : Status) → AllByRecursion HasEnded call.members
       → IfSome (all_arrivals call.source call.members 1 task.targets) (λ told. rows ≡ told) → FinishesAnswer call.written call.out_faults task.query rows ends → HoldsAt call ends
   settled rows status.Done ended same h =
       record {
@@ -57,23 +56,32 @@ module _ {S M : Type 0} (call : Call S M) (task : Task)
   settled rows (status.Stalled rounds) ended same h = absurd h
   settled rows (status.NotBuilt why) ended same h = absurd h
 
-  pub finished : (rows : List (List (List Value))) (end : RunEnd) (ends : Status) → EndsAtoms call.source task.targets call.opener_faults.old call.opener_faults.new call.members rows end
+  pub finished : (rows : List RowList) (end : RunEnd) (ends : Status) → EndsAtoms call.source task.targets call.opener_faults.old call.opener_faults.new call.members rows end
       → Finishes call.written call.out_faults task.query rows end ends → HoldsAt call ends
   finished rows run.Settled ends e h = settled rows ends e.0 e.1 h
   finished rows (run.Starved group) ends e h = rw (h.0) (record { task = task; accepts = accepts; members = members; ends_so = (e, h.1) })
   finished rows run.Stalled ends e h = rw (h.0) (refl, record { task = task; accepts = accepts; members = members; ends_so = (e, h.1) })
 
--- the names that a load asked for are the first of the two
-all_asked : (catalogue query : List ℕ) (words : List (List ℕ)) (old new : List (List ℕ)) (n : ℕ) → command_of words ≡ Some (catalogue, query)
-    → new ≡ old ++ take n (catalogue ∷ query ∷ []) → AsksSome (names_of words) old new
-all_asked catalogue query words old new n command e = (n, rw command e)
+-- the two names are those of the command
+pub names_asked : (catalogue query : Bytes) (words : List Bytes) (asked : Change (List Bytes)) → command_of words ≡ Some (catalogue, query)
+    → AsksSome (catalogue ∷ query ∷ []) asked → AsksSome (names_of words) asked
+names_asked catalogue query words asked command (n, e) = (n, rw command e)
 
-pub load_asked : (catalogue query : List ℕ) (words old new : List (List ℕ)) (loaded : Result Task LoadFault) → command_of words ≡ Some (catalogue, query)
-    → AsksLoad catalogue query old new loaded → AsksSome (names_of words) old new
-load_asked catalogue query words old new (Ok task) command h = all_asked catalogue query words old new 2 command h
-load_asked catalogue query words old new (Err (load.Shelf file.Catalogue)) command h = all_asked catalogue query words old new 1 command h
-load_asked catalogue query words old new (Err (load.Shelf file.Query)) command h = all_asked catalogue query words old new 2 command h
-load_asked catalogue query words old new (Err (load.Shelf file.Plan)) command h = absurd h
-load_asked catalogue query words old new (Err (load.Catalogue why relation item)) command h = all_asked catalogue query words old new 1 command h
-load_asked catalogue query words old new (Err (load.Query fault)) command h = all_asked catalogue query words old new 2 command h
-load_asked catalogue query words old new (Err load.NoMemory) command h = all_asked catalogue query words old new h.0 command h.1
+-- from a load that gave nothing to run to what holds at its status
+pub load_failed : {S M : Type 0} (call : Call S M) (catalogue query : Bytes) (failed : Status) → RunsNothing call → command_of call.words ≡ Some (catalogue, query)
+    → FailsToLoad (call.texts catalogue) (call.texts query) failed → IfShelfFails catalogue query call.shelf_faults call.shelf_asked (Err failed) → HoldsAt call failed
+load_failed call catalogue query status.NoMemory nothing command h fails = tt
+load_failed call catalogue query (status.ShelfFault file) nothing command h fails = (nothing, (fails.0, (catalogue, query, command, (fails.1, h))))
+load_failed call catalogue query (status.CatalogueRefused why relation item) nothing command h fails = (nothing, (catalogue, query, command, h))
+load_failed call catalogue query (status.QueryRefused why at) nothing command h fails = (nothing, (catalogue, query, command, h))
+load_failed call catalogue query (status.NotBuilt why) nothing command h fails = rw (h.0) (nothing, (catalogue, query, command, h.1))
+load_failed call catalogue query status.Done nothing command h fails = absurd h
+load_failed call catalogue query status.Usage nothing command h fails = absurd h
+load_failed call catalogue query (status.PlanRefused why part item) nothing command h fails = absurd h
+load_failed call catalogue query (status.Starved group) nothing command h fails = absurd h
+load_failed call catalogue query (status.RuleError rule) nothing command h fails = absurd h
+load_failed call catalogue query (status.SpillFault file) nothing command h fails = absurd h
+load_failed call catalogue query (status.SpillFull file need limit) nothing command h fails = absurd h
+load_failed call catalogue query (status.Differs file kept found) nothing command h fails = absurd h
+load_failed call catalogue query (status.Stalled rounds) nothing command h fails = absurd h
+load_failed call catalogue query status.OutFault nothing command h fails = absurd h

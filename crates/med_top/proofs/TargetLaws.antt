@@ -4,9 +4,10 @@ use Rattle.std.specs.List.{AllByRecursion}
 use Rattle.cat_reader.specs.Accepted.{IsWithin, KeepsLimits}
 use Rattle.cat_reader.specs.declared.catalogue.Relation.{Relation}
 use Rattle.query_reader.specs.Fitting.{FitsCatalogue}
-use Rattle.query_reader.specs.declared.query.Atom.{Atom}
-use Rattle.query_reader.specs.declared.query.Query.{Query}
-use Rattle.med_top.specs.Targets.{IsTargetWithin, only, only_mirrors, target_for, target_of, targets_for}
+use Rattle.query_core.specs.declared.query.Atom.{Atom}
+use Rattle.query_core.specs.declared.query.Query.{Query}
+use Rattle.med_prelude.specs.Texts.{Bytes}
+use Rattle.med_top.specs.Targets.{IsTargetWithin, one_mirror, only_mirrors, target_for, target_of, targets_for}
 use Rattle.med_top.specs.Tasks.{IsTaskWithin}
 use Rattle.med_top.specs.declared.target.Target.{Target}
 
@@ -21,15 +22,15 @@ more_short : {A : Type 0} (most : ℕ) (first : Option A) (found : Option (List 
 more_short most None found h = tt
 more_short most (Some x) found h = one_more most x found h
 
-mirrors_short : (groups : List (List (List ℕ))) → IsShort (length groups) (only_mirrors groups)
+mirrors_short : (groups : List (List Bytes)) → IsShort (length groups) (only_mirrors groups)
 mirrors_short [] = omega arith
-mirrors_short (group ∷ groups) = more_short (length groups) (only group) (only_mirrors groups) (mirrors_short groups)
+mirrors_short (group ∷ groups) = more_short (length groups) (one_mirror group) (only_mirrors groups) (mirrors_short groups)
 
 targets_short : (relations : List Relation) (atoms : List Atom) → IsShort (length atoms) (targets_for relations atoms)
 targets_short relations [] = omega arith
 targets_short relations (atom ∷ atoms) = more_short (length atoms) (target_for relations atom) (targets_for relations atoms) (targets_short relations atoms)
 
-located : (relation : Relation) (found : Option (List (List ℕ))) → IsWithin relation → IsShort (length relation.groups) found
+located : (relation : Relation) (found : Option (List Bytes)) → IsWithin relation → IsShort (length relation.groups) found
     → IfSome (option_map (λ locations. record { columns = relation.columns; locations = locations }) found) IsTargetWithin
 located relation None within short = tt
 located relation (Some locations) within short = record { columns = within.columns; groups = omega (arith, short, within.groups) }

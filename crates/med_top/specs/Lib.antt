@@ -6,3 +6,4 @@ pub mod Outcomes
 pub mod Taking
 pub mod Targets
 pub mod Tasks
+pub mod Limits

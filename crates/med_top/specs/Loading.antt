@@ -1,80 +1,57 @@
 -- What the texts on a shelf say: the catalogue, and what the query asks to be done with it.
-use Rattle.std.specs.Prelude.{◌≡◌, ⊤, ℕ, List, [], ◌∷◌, ◌++◌, take, Option, IfSome, Result, Ok, Err}
+use Rattle.std.specs.Prelude.{◌≡◌, ⊤, ℕ, ◌⊎◌, List, [], ◌∷◌, ◌++◌, take, IfSome, Result, Ok, Err}
 use Rattle.cat_reader.specs.Catalogue.{catalogue_of}
 use Rattle.cat_reader.specs.declared.catalogue.Relation.{Relation}
+use Rattle.med_base.specs.declared.status.ShelfFile.{ShelfFile}
 use Rattle.med_base.specs.declared.status.ShelfFile.TheVariants as file
-use Rattle.med_prelude.specs.declared.reading.Refusal.{Refusal}
-use Rattle.med_top.specs.Tasks.{task_in}
-use Rattle.med_top.specs.declared.load.LoadFault.{LoadFault}
-use Rattle.med_top.specs.declared.load.LoadFault.TheVariants.{Shelf, Catalogue, Query, NoMemory}
+use Rattle.med_base.specs.declared.status.Status.{Status}
+use Rattle.med_base.specs.declared.status.Status.TheVariants as status
+use Rattle.med_prelude.specs.Counts.{Rose}
+use Rattle.med_prelude.specs.Texts.{Bytes, ToldBytes}
+use Rattle.med_top.specs.Members.{Change}
+use Rattle.med_top.specs.Tasks.{AsksMirrors, IsTaskOf, RefusesCatalogue, RefusesQuery}
 use Rattle.med_top.specs.declared.task.Task.{Task}
-use Rattle.med_top.specs.declared.task.TaskFault.{TaskFault}
 
--- the catalogue's text, where it is told, spells these relations, or is refused so
-abbrev pub SaysCatalogue : Option (List ℕ) → Result (List Relation) Refusal → Type 0
-SaysCatalogue told says = IfSome told (λ text. catalogue_of text ≡ says)
+-- the catalogue's text, where it is told, spells relations of which this holds
+abbrev pub AfterCatalogue : ToldBytes → (List Relation → Type 0) → Type 0
+AfterCatalogue told says = (relations : List Relation) × IfSome told (λ text. catalogue_of text ≡ Ok relations) × says relations
 
--- the query's text, where it is told, asks for this, or is refused so
-abbrev pub SaysQuery : List Relation → Option (List ℕ) → Result Task TaskFault → Type 0
-SaysQuery relations told says = IfSome told (λ text. task_in relations text ≡ says)
+-- What the two texts say where they give nothing to run. The query is looked at only behind a catalogue that is accepted.
+abbrev pub FailsToLoad : ToldBytes → ToldBytes → Status → Type 0
+FailsToLoad catalogue query status.NoMemory = ⊤
+FailsToLoad catalogue query (status.ShelfFault file.Catalogue) = ⊤
+FailsToLoad catalogue query (status.ShelfFault file.Query) = AfterCatalogue catalogue (λ _. ⊤)
+FailsToLoad catalogue query (status.ShelfFault file.Plan) = ⊥
+FailsToLoad catalogue query (status.CatalogueRefused why relation item) = IfSome catalogue (λ text. RefusesCatalogue text why relation item)
+FailsToLoad catalogue query (status.QueryRefused why at) = AfterCatalogue catalogue (λ relations. IfSome query (λ text. RefusesQuery relations text why at))
+FailsToLoad catalogue query (status.NotBuilt why) = (why ≡ 4) × AfterCatalogue catalogue (λ relations. IfSome query (λ text. AsksMirrors relations text))
+FailsToLoad catalogue query other = ⊥
 
-abbrev pub FetchesCatalogue : Option (List ℕ) → Result (List Relation) LoadFault → Type 0
-FetchesCatalogue told (Ok relations) = SaysCatalogue told (Ok relations)
-FetchesCatalogue told (Err (Catalogue why relation item)) = SaysCatalogue told (Err (record { why = why; part = relation; item = item }))
-FetchesCatalogue told (Err (Shelf file.Catalogue)) = ⊤
-FetchesCatalogue told (Err (Shelf file.Query)) = ⊥
-FetchesCatalogue told (Err (Shelf file.Plan)) = ⊥
-FetchesCatalogue told (Err (Query fault)) = ⊥
-FetchesCatalogue told (Err NoMemory) = ⊤
-
-abbrev pub FetchesQuery : List Relation → Option (List ℕ) → Result Task LoadFault → Type 0
-FetchesQuery relations told (Ok task) = SaysQuery relations told (Ok task)
-FetchesQuery relations told (Err (Query fault)) = SaysQuery relations told (Err fault)
-FetchesQuery relations told (Err (Shelf file.Query)) = ⊤
-FetchesQuery relations told (Err (Shelf file.Catalogue)) = ⊥
-FetchesQuery relations told (Err (Shelf file.Plan)) = ⊥
-FetchesQuery relations told (Err (Catalogue why relation item)) = ⊥
-FetchesQuery relations told (Err NoMemory) = ⊤
-
--- the catalogue is accepted, and of its relations the query's text says this
-abbrev pub AfterCatalogue : Option (List ℕ) → (List Relation → Type 0) → Type 0
-AfterCatalogue told says = (relations : List Relation) × SaysCatalogue told (Ok relations) × says relations
-
--- What the two texts say at each answer. The query is looked at only behind a catalogue that is accepted.
-abbrev pub Loads : Option (List ℕ) → Option (List ℕ) → Result Task LoadFault → Type 0
-Loads catalogue query (Ok task) = AfterCatalogue catalogue (λ relations. SaysQuery relations query (Ok task))
-Loads catalogue query (Err (Query fault)) = AfterCatalogue catalogue (λ relations. SaysQuery relations query (Err fault))
-Loads catalogue query (Err (Shelf file.Query)) = AfterCatalogue catalogue (λ _. ⊤)
-Loads catalogue query (Err (Shelf file.Catalogue)) = ⊤
-Loads catalogue query (Err (Shelf file.Plan)) = ⊥
-Loads catalogue query (Err (Catalogue why relation item)) = SaysCatalogue catalogue (Err (record { why = why; part = relation; item = item }))
-Loads catalogue query (Err NoMemory) = ⊤
-
--- the fact holds where the shelf failed
-abbrev pub IfShelfFault : {T : Type 0} → Result T LoadFault → Type 0 → Type 0
-IfShelfFault (Ok x) fact = ⊤
-IfShelfFault (Err (Shelf file)) fact = fact
-IfShelfFault (Err (Catalogue why relation item)) fact = ⊤
-IfShelfFault (Err (Query fault)) fact = ⊤
-IfShelfFault (Err NoMemory) fact = ⊤
+-- what the two texts say at each answer
+abbrev pub Loads : ToldBytes → ToldBytes → Result Task Status → Type 0
+Loads catalogue query (Ok task) = AfterCatalogue catalogue (λ relations. IfSome query (λ text. IsTaskOf relations text task))
+Loads catalogue query (Err status) = FailsToLoad catalogue query status
 
 -- the shelf was asked for some of these names, from the first on
-abbrev pub AsksSome : List (List ℕ) → List (List ℕ) → List (List ℕ) → Type 0
-AsksSome names old new = (n : ℕ) × (new ≡ old ++ take n names)
+abbrev pub AsksSome : List Bytes → Change (List Bytes) → Type 0
+AsksSome names asked = (n : ℕ) × (asked.new ≡ asked.old ++ take n names)
 
-abbrev pub AsksName : {T : Type 0} → List ℕ → List (List ℕ) → List (List ℕ) → Result T LoadFault → Type 0
-AsksName name old new (Ok x) = new ≡ old ++ name ∷ []
-AsksName name old new (Err (Shelf file)) = new ≡ old ++ name ∷ []
-AsksName name old new (Err (Catalogue why relation item)) = new ≡ old ++ name ∷ []
-AsksName name old new (Err (Query fault)) = new ≡ old ++ name ∷ []
-AsksName name old new (Err NoMemory) = AsksSome (name ∷ []) old new
+-- the shelf was asked for that name last
+abbrev pub AsksLast : Bytes → Change (List Bytes) → Type 0
+AsksLast name asked = asked.new ≡ asked.old ++ name ∷ []
 
--- the names that the shelf was asked for, up to the text that the answer is about
-abbrev pub AsksLoad : List ℕ → List ℕ → List (List ℕ) → List (List ℕ) → Result Task LoadFault → Type 0
-AsksLoad catalogue query old new (Ok task) = new ≡ old ++ catalogue ∷ query ∷ []
-AsksLoad catalogue query old new (Err (Query fault)) = new ≡ old ++ catalogue ∷ query ∷ []
-AsksLoad catalogue query old new (Err (Shelf file.Query)) = new ≡ old ++ catalogue ∷ query ∷ []
-AsksLoad catalogue query old new (Err (Shelf file.Catalogue)) = new ≡ old ++ catalogue ∷ []
-AsksLoad catalogue query old new (Err (Shelf file.Plan)) = ⊥
-AsksLoad catalogue query old new (Err (Catalogue why relation item)) = new ≡ old ++ catalogue ∷ []
-AsksLoad catalogue query old new (Err NoMemory) = AsksSome (catalogue ∷ query ∷ []) old new
+-- the text of that name could not be fetched: memory ran out, or the shelf was asked for it and failed
+abbrev pub FailsToFetch : ShelfFile → Bytes → Change ℕ → Change (List Bytes) → Status → Type 0
+FailsToFetch file name faults asked failed = ((failed ≡ status.NoMemory) × ((asked.new ≡ asked.old) ⊎ AsksLast name asked))
+    ⊎ ((failed ≡ status.ShelfFault file) × Rose faults.old faults.new × AsksLast name asked)
+
+-- the names that the shelf was asked for, up to that of the text at which it failed
+abbrev pub AsksUpTo : Bytes → Bytes → Change (List Bytes) → ShelfFile → Type 0
+AsksUpTo catalogue query asked file.Catalogue = asked.new ≡ asked.old ++ catalogue ∷ []
+AsksUpTo catalogue query asked file.Query = asked.new ≡ asked.old ++ catalogue ∷ query ∷ []
+AsksUpTo catalogue query asked file.Plan = ⊥
+
+-- where the answer is that the shelf failed, its count of faults rose, and it was asked for the names up to that text's
+abbrev pub IfShelfFails : Bytes → Bytes → Change ℕ → Change (List Bytes) → Result Task Status → Type 0
+IfShelfFails catalogue query faults asked (Err (status.ShelfFault file)) = Rose faults.old faults.new × AsksUpTo catalogue query asked file
+IfShelfFails catalogue query faults asked other = ⊤

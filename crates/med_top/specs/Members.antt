@@ -11,10 +11,12 @@ use Rattle.med_base.specs.declared.outside.source.Source.{Ghosts as Source}
 use Rattle.med_prelude.specs.Counts.{Rose}
 use Rattle.tuple_core.specs.declared.columns.Column.{Column}
 use Rattle.tuple_core.specs.declared.value.Value.{Value}
+use Rattle.med_prelude.specs.Texts.{Bytes, ToldBytes}
+use Rattle.tuple_core.specs.Values.{RowList}
+use Rattle.med_top.specs.Limits.{idle_limit}
 use Rattle.med_top.specs.declared.groups.GroupsRead.{GroupsRead}
 use Rattle.med_top.specs.declared.groups.RunEnd.{RunEnd}
 use Rattle.med_top.specs.declared.groups.RunEnd.TheVariants as run
-use Rattle.med_top.specs.declared.taking.TheConstants.{IDLE_LIMIT}
 
 -- what a count or a list was before a call, and what it is after it
 pub record Change (T : Type 0) : Type 0 where
@@ -24,7 +26,7 @@ pub record Change (T : Type 0) : Type 0 where
 -- what changed of an opener: how often it failed, what it was asked for, and the marks of what it gave
 pub record Opened (M : Type 0) : Type 0 where
   pub faults : Change ℕ
-  pub asked : Change (List (List ℕ))
+  pub asked : Change (List Bytes)
   pub given : Change (List M)
 
 -- the one mirror of an atom's group
@@ -35,14 +37,14 @@ abbrev pub group_of : MemberName → GroupName
 group_of name = record { atom = name.atom; group = name.group }
 
 -- The member of a group's one mirror: it is sound, and its source has the text that was told at the location.
-pub record IsMemberOf {S M : Type 0} (source : Source S M) (columns : List Column) (told : List ℕ → Option (List ℕ)) (atom group : ℕ) (at : List ℕ) (member : MemberEnd S) : Type 0 where
+pub record IsMemberOf {S M : Type 0} (source : Source S M) (columns : List Column) (told : Bytes → ToldBytes) (atom group : ℕ) (at : Bytes) (member : MemberEnd S) : Type 0 where
   pub name : member.name ≡ member_of atom group
   pub location : member.location ≡ at
   pub sound : IsSoundMember source columns member
   pub whole : IfSome member.source (λ s. StaysTold (told at) (source.whole s))
 
 -- each location has its member, in order, from a group on
-abbrev pub AreMembers : {S M : Type 0} → Source S M → List Column → (List ℕ → Option (List ℕ)) → ℕ → ℕ → List (List ℕ) → List (MemberEnd S) → Type 0
+abbrev pub AreMembers : {S M : Type 0} → Source S M → List Column → (Bytes → ToldBytes) → ℕ → ℕ → List Bytes → List (MemberEnd S) → Type 0
 AreMembers source columns told atom group [] [] = ⊤
 AreMembers source columns told atom group [] (member ∷ members) = ⊥
 AreMembers source columns told atom group (location ∷ locations) [] = ⊥
@@ -56,15 +58,15 @@ HasEnded member = member.state ≡ state.Ended
 abbrev pub IsIdle : {S : Type 0} → MemberEnd S → Type 0
 IsIdle member = (member.state ≡ state.Idle) × (member.source ≡ None)
 
-abbrev pub idle : {S : Type 0} → MemberName → List ℕ → MemberEnd S
-idle name at = record { name = name; location = at; state = state.Idle; fault = None; accepted = 0; source = None }
+abbrev pub idle_member : {S : Type 0} → MemberName → Bytes → MemberEnd S
+idle_member name at = record { name = name; location = at; state = state.Idle; fault = None; accepted = 0; source = None }
 
 -- the rows of two members, where both are told
-abbrev pub with_more : Option (List (List Value)) → Option (List (List Value)) → Option (List (List Value))
+abbrev pub with_more : Option RowList → Option RowList → Option RowList
 with_more rows more = option_and_then (λ front. option_map (λ behind. front ++ behind) more) rows
 
 -- the rows that the members accepted, in their order
-abbrev pub arrivals : {S M : Type 0} → Source S M → List Column → List (MemberEnd S) → Option (List (List Value))
+abbrev pub arrivals : {S M : Type 0} → Source S M → List Column → List (MemberEnd S) → Option RowList
 arrivals source columns [] = Some []
 arrivals source columns (member ∷ members) = with_more (accepted_rows source columns member) (arrivals source columns members)
 
@@ -87,22 +89,22 @@ pub record HasFailed {S : Type 0} (old new : ℕ) (group : GroupName) (member : 
 -- the last 100,000 pulls of the member's source answered that nothing is there yet
 pub record HasStalled {S M : Type 0} (source : Source S M) (member : MemberEnd S) : Type 0 where
   pub active : member.state ≡ state.Active
-  pub dry : IsSomeAnd member.source (λ s. IDLE_LIMIT ≤ source.dry s)
+  pub dry : IsSomeAnd member.source (λ s. idle_limit ≤ source.dry s)
 
 -- How the run of the members ended: with the rows of all of them, or at one of them.
-abbrev pub EndsRun : {S M : Type 0} → Source S M → List Column → ℕ → ℕ → List (MemberEnd S) → List (List Value) → RunEnd → Type 0
+abbrev pub EndsRun : {S M : Type 0} → Source S M → List Column → ℕ → ℕ → List (MemberEnd S) → RowList → RunEnd → Type 0
 EndsRun source columns old new members rows run.Settled = AllByRecursion HasEnded members × IfSome (arrivals source columns members) (λ accepted. rows ≡ accepted)
 EndsRun source columns old new members rows (run.Starved group) = StopsAt members (HasFailed old new group)
 EndsRun source columns old new members rows run.Stalled = StopsAt members (HasStalled source)
 
 -- How the run of one member ended. Where it was read to its end, its rows stand behind the others.
-abbrev pub EndsMember : {S M : Type 0} → Source S M → List Column → ℕ → ℕ → List (List Value) → List (List Value) → MemberEnd S → RunEnd → Type 0
+abbrev pub EndsMember : {S M : Type 0} → Source S M → List Column → ℕ → ℕ → RowList → RowList → MemberEnd S → RunEnd → Type 0
 EndsMember source columns old new rows more member run.Settled = HasEnded member × IfSome (accepted_rows source columns member) (λ accepted. more ≡ rows ++ accepted)
 EndsMember source columns old new rows more member (run.Starved group) = HasFailed old new group member
 EndsMember source columns old new rows more member run.Stalled = HasStalled source member
 
 -- what a run so far becomes by the next group
-pub record Advances {S M : Type 0} (source : Source S M) (columns : List Column) (told : List ℕ → Option (List ℕ)) (atom group : ℕ) (location : List ℕ) (opener : Opened M) (old new : GroupsRead S) : Type 0 where
+pub record Advances {S M : Type 0} (source : Source S M) (columns : List Column) (told : Bytes → ToldBytes) (atom group : ℕ) (location : Bytes) (opener : Opened M) (old new : GroupsRead S) : Type 0 where
   pub member : MemberEnd S
   pub grown : new.members ≡ old.members ++ member ∷ []
   pub is_member : IsMemberOf source columns told atom group location member

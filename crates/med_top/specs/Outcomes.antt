@@ -1,49 +1,46 @@
 -- What holds at each status of a call of the mediator.
-use Rattle.std.specs.Prelude.{◌≡◌, ⊤, ℕ, ◌==◌, List, [], ◌∷◌, ◌++◌, take, Option, Some, None, IfSome, Ok, Err}
+use Rattle.std.specs.Prelude.{◌≡◌, ⊤, ℕ, ◌==◌, List, [], ◌∷◌, ◌++◌, take, Some, None, IfSome, Ok}
 use Rattle.std.specs.Bool.{MatchBool}
 use Rattle.std.specs.List.{AllByRecursion}
+use Rattle.cat_reader.specs.declared.catalogue.Relation.{Relation}
 use Rattle.csv_wrap.specs.declared.members.MemberEnd.{MemberEnd}
 use Rattle.med_base.specs.declared.outside.source.Source.{Ghosts as Source}
 use Rattle.med_base.specs.declared.status.ShelfFile.{ShelfFile}
-use Rattle.med_base.specs.declared.status.ShelfFile.TheVariants as file
 use Rattle.med_base.specs.declared.status.Status.{Status}
 use Rattle.med_base.specs.declared.status.Status.TheVariants as status
 use Rattle.med_prelude.specs.Counts.{Rose}
-use Rattle.med_prelude.specs.Texts.{grown}
-use Rattle.tuple_core.specs.declared.value.Value.{Value}
-use Rattle.query_reader.specs.Answers.{answer_text}
-use Rattle.query_reader.specs.declared.query.Query.{Query}
+use Rattle.med_prelude.specs.Texts.{Bytes, ToldBytes, grown}
+use Rattle.tuple_core.specs.Values.{RowList}
+use Rattle.query_core.specs.Answers.{answer_text}
+use Rattle.query_core.specs.declared.query.Query.{Query}
+use Rattle.med_top.specs.Limits.{idle_limit}
 use Rattle.med_top.specs.Command.{command_of}
-use Rattle.med_top.specs.Loading.{AfterCatalogue, Loads, SaysCatalogue, SaysQuery}
+use Rattle.med_top.specs.Loading.{AfterCatalogue, AsksUpTo, FailsToLoad, Loads}
 use Rattle.med_top.specs.Atoms.{AreAllMembers, all_arrivals}
 use Rattle.med_top.specs.Members.{Change, HasEnded, HasFailed, HasStalled, StopsAt}
 use Rattle.med_top.specs.declared.groups.RunEnd.{RunEnd}
 use Rattle.med_top.specs.declared.groups.RunEnd.TheVariants as run
-use Rattle.med_top.specs.declared.load.LoadFault.{LoadFault}
-use Rattle.med_top.specs.declared.load.LoadFault.TheVariants as load
-use Rattle.med_top.specs.declared.taking.TheConstants.{IDLE_LIMIT}
+use Rattle.med_top.specs.Tasks.{AsksMirrors, RefusesCatalogue, RefusesQuery}
 use Rattle.med_top.specs.declared.task.Task.{Task}
-use Rattle.med_top.specs.declared.task.TaskFault.{TaskFault}
-use Rattle.med_top.specs.declared.task.TaskFault.TheVariants as fault
 
 -- What a call met and left: the words; what the shelf and the opener tell; how often each of them failed; the names that
 -- the shelf was asked for; what the sink tells and how often it failed; and the members.
 pub record Call (S M : Type 0) : Type 1 where
   pub source : Source S M
-  pub words : List (List ℕ)
-  pub texts : List ℕ → Option (List ℕ)
-  pub sources : List ℕ → Option (List ℕ)
+  pub words : List Bytes
+  pub texts : Bytes → ToldBytes
+  pub sources : Bytes → ToldBytes
   pub opener_faults : Change ℕ
   pub shelf_faults : Change ℕ
-  pub shelf_asked : Change (List (List ℕ))
-  pub written : Change (Option (List ℕ))
+  pub shelf_asked : Change (List Bytes)
+  pub written : Change (ToldBytes)
   pub out_faults : Change ℕ
   pub members : List (MemberEnd S)
 
 -- the words name a catalogue and a query, which ask for this to be done
-pub record Accepts (words : List (List ℕ)) (texts : List ℕ → Option (List ℕ)) (task : Task) : Type 0 where
-  pub catalogue : List ℕ
-  pub query : List ℕ
+pub record Accepts (words : List Bytes) (texts : Bytes → ToldBytes) (task : Task) : Type 0 where
+  pub catalogue : Bytes
+  pub query : Bytes
   pub command : command_of words ≡ Some (catalogue, query)
   pub loads : Loads (texts catalogue) (texts query) (Ok task)
 
@@ -60,41 +57,38 @@ pub record RunsAtoms {S M : Type 0} (call : Call S M) (ends : Task → Type 0) :
   pub ends_so : ends task
 
 -- the text is that of the query's answer over the rows that the members accepted
-abbrev pub IsAnswer : {S M : Type 0} → Call S M → Task → List ℕ → Type 0
+abbrev pub IsAnswer : {S M : Type 0} → Call S M → Task → Bytes → Type 0
 IsAnswer call task text = IfSome (all_arrivals call.source call.members 1 task.targets) (λ rows. text ≡ answer_text task.query rows)
 
 -- every group is settled, and the whole text of the answer was written
 abbrev pub WritesAnswer : {S M : Type 0} → Call S M → Task → Type 0
 WritesAnswer call task = AllByRecursion HasEnded call.members
-    × (text : List ℕ) × IsAnswer call task text × (call.written.new ≡ grown call.written.old text)
+    × (text : Bytes) × IsAnswer call task text × (call.written.new ≡ grown call.written.old text)
 
 -- every group is settled, the sink failed, and a prefix of the answer's text was written
 abbrev pub WritesPrefix : {S M : Type 0} → Call S M → Task → Type 0
 WritesPrefix call task = AllByRecursion HasEnded call.members
     × Rose call.out_faults.old call.out_faults.new
-    × (text : List ℕ) × IsAnswer call task text × (n : ℕ) × (call.written.new ≡ grown call.written.old (take n text))
+    × (text : Bytes) × IsAnswer call task text × (n : ℕ) × (call.written.new ≡ grown call.written.old (take n text))
 
 -- the call has the words of a command, of which this holds
-abbrev pub IfCommand : {S M : Type 0} → Call S M → (List ℕ → List ℕ → Type 0) → Type 0
-IfCommand call holds = (catalogue : List ℕ) × (query : List ℕ) × (command_of call.words ≡ Some (catalogue, query)) × holds catalogue query
+abbrev pub IfCommand : {S M : Type 0} → Call S M → (Bytes → Bytes → Type 0) → Type 0
+IfCommand call holds = (catalogue : Bytes) × (query : Bytes) × (command_of call.words ≡ Some (catalogue, query)) × holds catalogue query
 
--- The shelf failed. It was asked for the names up to that of the text that is named.
+-- The shelf failed at that text. It was asked for the names up to that text's; the catalogue is accepted before the query is fetched.
 abbrev pub ShelfFailed : {S M : Type 0} → Call S M → ShelfFile → Type 0
-ShelfFailed call file.Catalogue = Rose call.shelf_faults.old call.shelf_faults.new
-    × IfCommand call (λ catalogue query. call.shelf_asked.new ≡ call.shelf_asked.old ++ catalogue ∷ [])
-ShelfFailed call file.Query = Rose call.shelf_faults.old call.shelf_faults.new
-    × IfCommand call (λ catalogue query. (call.shelf_asked.new ≡ call.shelf_asked.old ++ catalogue ∷ query ∷ []) × AfterCatalogue (call.texts catalogue) (λ _. ⊤))
-ShelfFailed call file.Plan = ⊥
+ShelfFailed call file = Rose call.shelf_faults.old call.shelf_faults.new
+    × IfCommand call (λ catalogue query. AsksUpTo catalogue query call.shelf_asked file × FailsToLoad (call.texts catalogue) (call.texts query) (status.ShelfFault file))
 
--- the catalogue's text is refused so
-abbrev pub RefusesCatalogue : {S M : Type 0} → Call S M → ℕ → ℕ → ℕ → Type 0
-RefusesCatalogue call why relation item = IfCommand call (λ catalogue query.
-    SaysCatalogue (call.texts catalogue) (Err (record { why = why; part = relation; item = item })))
+-- the catalogue's text, where it is told, is refused so
+abbrev pub CatalogueIsRefused : {S M : Type 0} → Call S M → ℕ → ℕ → ℕ → Type 0
+CatalogueIsRefused call why relation item = IfCommand call (λ catalogue query.
+    IfSome (call.texts catalogue) (λ text. RefusesCatalogue text why relation item))
 
--- the query's text gives no task for that cause, the catalogue being accepted
-abbrev pub RefusesTask : {S M : Type 0} → Call S M → TaskFault → Type 0
-RefusesTask call fault = IfCommand call (λ catalogue query.
-    AfterCatalogue (call.texts catalogue) (λ relations. SaysQuery relations (call.texts query) (Err fault)))
+-- the catalogue is accepted, and this holds of its relations and of the query's text, where it is told
+abbrev pub IfQuery : {S M : Type 0} → Call S M → (List Relation → Bytes → Type 0) → Type 0
+IfQuery call holds = IfCommand call (λ catalogue query.
+    AfterCatalogue (call.texts catalogue) (λ relations. IfSome (call.texts query) (λ text. holds relations text)))
 
 -- the run ended so at one of the members, and the sink has what it had
 abbrev pub EndsSilently : {S M : Type 0} → Call S M → (MemberEnd S → Type 0) → Type 0
@@ -104,17 +98,17 @@ EndsSilently call stops = RunsAtoms call (λ task. StopsAt call.members stops ×
 abbrev pub IsNotBuilt : {S M : Type 0} → Call S M → ℕ → Type 0
 IsNotBuilt call why =
     MatchBool (why == 1) (RunsNothing call × (command_of call.words ≡ None))
-    (MatchBool (why == 4) (RunsNothing call × RefusesTask call fault.Mirrors) ⊥)
+    (MatchBool (why == 4) (RunsNothing call × IfQuery call (λ relations text. AsksMirrors relations text)) ⊥)
 
 -- What holds at each status. Want of memory may come anywhere, and the statuses that are ⊥ never come.
 abbrev pub HoldsAt : {S M : Type 0} → Call S M → Status → Type 0
 HoldsAt call status.Done = RunsAtoms call (WritesAnswer call)
 HoldsAt call status.NoMemory = ⊤
 HoldsAt call (status.ShelfFault file) = RunsNothing call × ShelfFailed call file
-HoldsAt call (status.CatalogueRefused why relation item) = RunsNothing call × RefusesCatalogue call why relation item
-HoldsAt call (status.QueryRefused why at) = RunsNothing call × RefusesTask call (fault.Query why at)
+HoldsAt call (status.CatalogueRefused why relation item) = RunsNothing call × CatalogueIsRefused call why relation item
+HoldsAt call (status.QueryRefused why at) = RunsNothing call × IfQuery call (λ relations text. RefusesQuery relations text why at)
 HoldsAt call (status.Starved group) = EndsSilently call (HasFailed call.opener_faults.old call.opener_faults.new group)
-HoldsAt call (status.Stalled rounds) = (rounds ≡ IDLE_LIMIT) × EndsSilently call (HasStalled call.source)
+HoldsAt call (status.Stalled rounds) = (rounds ≡ idle_limit) × EndsSilently call (HasStalled call.source)
 HoldsAt call status.OutFault = RunsAtoms call (WritesPrefix call)
 HoldsAt call (status.NotBuilt why) = IsNotBuilt call why
 HoldsAt call status.Usage = ⊥
@@ -125,22 +119,14 @@ HoldsAt call (status.SpillFull file need limit) = ⊥
 HoldsAt call (status.Differs file kept found) = ⊥
 
 -- what the writing of the answer of a settled run comes to
-abbrev pub FinishesAnswer : Change (Option (List ℕ)) → Change ℕ → Query → List (List (List Value)) → Status → Type 0
+abbrev pub FinishesAnswer : Change (ToldBytes) → Change ℕ → Query → List RowList → Status → Type 0
 FinishesAnswer written faults query rows status.Done = written.new ≡ grown written.old (answer_text query rows)
 FinishesAnswer written faults query rows status.OutFault = Rose faults.old faults.new × (n : ℕ) × (written.new ≡ grown written.old (take n (answer_text query rows)))
 FinishesAnswer written faults query rows status.NoMemory = ⊤
 FinishesAnswer written faults query rows other = ⊥
 
 -- what the end of a run comes to
-abbrev pub Finishes : Change (Option (List ℕ)) → Change ℕ → Query → List (List (List Value)) → RunEnd → Status → Type 0
+abbrev pub Finishes : Change (ToldBytes) → Change ℕ → Query → List RowList → RunEnd → Status → Type 0
 Finishes written faults query rows run.Settled ends = FinishesAnswer written faults query rows ends
 Finishes written faults query rows (run.Starved group) ends = (ends ≡ status.Starved group) × (written.new ≡ written.old)
-Finishes written faults query rows run.Stalled ends = (ends ≡ status.Stalled IDLE_LIMIT) × (written.new ≡ written.old)
-
--- the status of a load that gave nothing to run
-abbrev pub status_of : LoadFault → Status
-status_of (load.Shelf file) = status.ShelfFault file
-status_of (load.Catalogue why relation item) = status.CatalogueRefused why relation item
-status_of (load.Query (fault.Query why at)) = status.QueryRefused why at
-status_of (load.Query fault.Mirrors) = status.NotBuilt 4
-status_of load.NoMemory = status.NoMemory
+Finishes written faults query rows run.Stalled ends = (ends ≡ status.Stalled idle_limit) × (written.new ≡ written.old)

@@ -6,13 +6,14 @@ use Rattle.med_base.specs.declared.outside.source.Source.{Ghosts as Source}
 use Rattle.tuple_core.specs.declared.value.Value.{Value}
 use Rattle.csv_wrap.specs.Ahead.{HoldsNothing}
 use Rattle.csv_wrap.specs.Wrapped.{AcceptedAs, HasGiven, SoundAs, Wrapped, fault_of}
+use Rattle.tuple_core.specs.Values.{RowList}
+use Rattle.med_top.specs.Limits.{idle_limit}
 use Rattle.med_top.specs.declared.taking.SourceEnd.{SourceEnd}
 use Rattle.med_top.specs.declared.taking.SourceEnd.TheVariants as source_end
-use Rattle.med_top.specs.declared.taking.TheConstants.{IDLE_LIMIT}
 
 -- the rows that the wrapper gave stand behind these, and no others do
-pub record HasTaken {S M : Type 0} (source : Source S M) (w : Wrapped S) (before rows : List (List Value)) : Type 0 where
-  pub given : List (List Value)
+pub record HasTaken {S M : Type 0} (source : Source S M) (w : Wrapped S) (before rows : RowList) : Type 0 where
+  pub given : RowList
   pub has : HasGiven source w given
   pub behind : rows ≡ before ++ given
 
@@ -25,9 +26,9 @@ IsTakenUp source w (Some why) = SoundAs source w state.Failed (Some why)
 abbrev pub EndsTaking : {S M : Type 0} → Source S M → Wrapped S → SourceEnd → Type 0
 EndsTaking source w source_end.Ended = SoundAs source w state.Ended None × AcceptedAs source w
 EndsTaking source w (source_end.Failed why) = SoundAs source w state.Failed (Some why)
-EndsTaking source w source_end.Stalled = SoundAs source w state.Active None × (IDLE_LIMIT ≤ source.dry w.source)
+EndsTaking source w source_end.Stalled = SoundAs source w state.Active None × (idle_limit ≤ source.dry w.source)
 
 -- 1 until a source's end is told
-abbrev pub unended : Bool → ℕ
-unended true = 0
-unended false = 1
+abbrev pub ends_to_come : Bool → ℕ
+ends_to_come true = 0
+ends_to_come false = 1

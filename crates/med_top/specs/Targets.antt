@@ -2,19 +2,20 @@
 use Rattle.std.specs.Prelude.{ℕ, ◌≤◌, List, [], ◌∷◌, length, slice_get, Option, Some, None, option_map, option_and_then}
 use Rattle.std.specs.List.{AllByRecursion}
 use Rattle.cat_reader.specs.declared.catalogue.Relation.{Relation}
-use Rattle.query_reader.specs.declared.query.Atom.{Atom}
+use Rattle.query_core.specs.declared.query.Atom.{Atom}
+use Rattle.med_prelude.specs.Texts.{Bytes}
 use Rattle.med_top.specs.declared.target.Target.{Target}
 
 -- the one mirror of a group that has no more
-abbrev pub only : List (List ℕ) → Option (List ℕ)
-only [] = None
-only (location ∷ []) = Some location
-only (location ∷ other ∷ more) = None
+abbrev pub one_mirror : List Bytes → Option Bytes
+one_mirror [] = None
+one_mirror (location ∷ []) = Some location
+one_mirror (location ∷ other ∷ more) = None
 
 -- the location of the one mirror of each group
-abbrev pub only_mirrors : List (List (List ℕ)) → Option (List (List ℕ))
+abbrev pub only_mirrors : List (List Bytes) → Option (List Bytes)
 only_mirrors [] = Some []
-only_mirrors (group ∷ groups) = option_and_then (λ location. option_map (λ more. location ∷ more) (only_mirrors groups)) (only group)
+only_mirrors (group ∷ groups) = option_and_then (λ location. option_map (λ more. location ∷ more) (only_mirrors groups)) (one_mirror group)
 
 abbrev pub target_of : Relation → Option Target
 target_of relation = option_map (λ locations. record { columns = relation.columns; locations = locations }) (only_mirrors relation.groups)

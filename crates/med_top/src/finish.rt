@@ -7,8 +7,8 @@ use crate::groups::RunEnd;
 use crate::taking::IDLE_LIMIT;
 use med_base::{Sink, SinkFault, Status};
 use out_text::write_rows;
+use query_core::{Arrivals, Query};
 use query_model::slow_answer;
-use query_reader::{Arrivals, Query};
 use std::alloc::Global;
 use tuple_core::Rows;
 

@@ -4,7 +4,7 @@ ghost use Rattle.std.specs.List.{AllByRecursion};
 ghost use Rattle.std.specs.Prelude.{◌≡◌, ◌+◌, ◌≤◌, ◌<◌, ◌++◌, ◌∷◌, [], IfOk, OnOk, length};
 ghost use Rattle.csv_wrap.specs.Sound.{asked_locations, given_marks};
 ghost use Rattle.med_top.specs.Targets.{IsTargetWithin};
-ghost use Rattle.med_top.specs.Members.{Advances, AreMembers, EndsRun, IsIdle, idle, member_of};
+ghost use Rattle.med_top.specs.Members.{Advances, AreMembers, EndsRun, IsIdle, idle_member, member_of};
 
 use crate::member::read_member;
 use crate::target::Target;
@@ -136,7 +136,7 @@ fn open_next<O: Opener>(
 impl<S: Drop> GroupsRead<S> {
     /// Lists the next member as one that was never opened.
     fn leave_next(&mut self, name: MemberName, location: Text) -> Result<(), AllocError>
-        ensures members { OnOk result (self.new.members ≡ self.old.members ++ idle name location ∷ []) }
+        ensures members { OnOk result (self.new.members ≡ self.old.members ++ idle_member name location ∷ []) }
         ensures rows { self.new.rows ≡ self.old.rows }
         ensures end { self.new.end ≡ self.old.end }
     {

@@ -1,103 +1,50 @@
-//! Loads the catalogue and the query from the shelf.
+//! Loads what a command names: the catalogue, the query, and what is read for each of its atoms.
 
-ghost use Rattle.std.specs.Prelude.{◌≡◌, ◌≤◌, IfOk};
-ghost use Rattle.cat_reader.specs.Accepted.{KeepsLimits};
+ghost use Rattle.std.specs.Prelude.{◌≡◌, ◌≤◌, [], ◌∷◌, ◌++◌, IfOk, IfErr, OnOk};
+ghost use Rattle.med_base.specs.Outside.{IsFetched};
+ghost use Rattle.med_top.specs.Loading.{AsksSome, FailsToFetch, IfShelfFails, Loads};
 ghost use Rattle.med_top.specs.Tasks.{IsTaskWithin};
-ghost use Rattle.med_prelude.specs.Counts.{Rose};
-ghost use Rattle.med_top.specs.Loading.{AsksLoad, FetchesCatalogue, FetchesQuery, IfShelfFault, Loads, AsksName};
 
-use crate::task::{Task, TaskFault, task_in};
-use cat_reader::{Catalogue, CatalogueFault, read_catalogue};
-use med_base::{FetchFault, Shelf, ShelfFile};
-use med_prelude::ReadFault;
+use crate::task::{Task, catalogue_in, task_in};
+use med_base::{FetchFault, Shelf, ShelfFile, Status};
 use std::alloc::Global;
-use thiserror::Error;
 
-/// Why the catalogue and the query gave nothing to run.
-#[derive(Clone, Copy, Debug, PartialEq, Eq, Error)]
-pub enum LoadFault {
-    #[error("a text could not be fetched")]
-    Shelf(ShelfFile),
-    #[error("the catalogue is refused")]
-    Catalogue { why: u8, relation: u32, item: u32 },
-    #[error("the query gives nothing to do")]
-    Query(TaskFault),
-    #[error("out of memory")]
-    NoMemory,
-}
-
-/// Fetches the catalogue and then the query, each once, and reads them.
+/// Fetches the catalogue and then the query, each once, and reads them. Where that gives nothing to run, the answer is
+/// the status that the call ends with.
 pub fn load<H: Shelf>(
     alloc: Global,
     shelf: &mut H,
     catalogue: &str,
     query: &str,
-) -> Result<Task, LoadFault>
+) -> Result<Task, Status>
     ensures within { IfOk result IsTaskWithin }
     ensures loads { Loads (H.told shelf.old catalogue.now) (H.told shelf.old query.now) result }
     ensures told { H.told shelf.new ≡ H.told shelf.old }
-    ensures asked { AsksLoad catalogue.now query.now (H.asked shelf.old) (H.asked shelf.new) result }
-    ensures faults { H.faults shelf.old ≤ H.faults shelf.new }
-    ensures failed { IfShelfFault result (Rose (H.faults shelf.old) (H.faults shelf.new)) }
+    ensures asked { AsksSome (catalogue.now ∷ query.now ∷ []) (record { old = H.asked shelf.old; new = H.asked shelf.new }) }
+    ensures fails { IfShelfFails catalogue.now query.now (record { old = H.faults shelf.old; new = H.faults shelf.new }) (record { old = H.asked shelf.old; new = H.asked shelf.new }) result }
 {
-    let relations = fetch_catalogue(alloc, shelf, catalogue)?;
-    fetch_query(alloc, shelf, query, &relations)
+    let text = fetch(alloc, shelf, catalogue, ShelfFile::Catalogue)?;
+    let relations = catalogue_in(alloc, text.as_slice())?;
+    let text = fetch(alloc, shelf, query, ShelfFile::Query)?;
+    task_in(alloc, &relations, text.as_slice())
 }
 
-fn fetch_catalogue<H: Shelf>(
+/// The text of that name, which is the one that a fault of the shelf names.
+fn fetch<H: Shelf>(
     alloc: Global,
     shelf: &mut H,
     name: &str,
-) -> Result<Catalogue, LoadFault>
-    ensures limits { IfOk result KeepsLimits }
-    ensures catalogue { FetchesCatalogue (H.told shelf.old name.now) result }
+    file: ShelfFile,
+) -> Result<Vec<u8>, Status>
+    ensures text { IfOk result (λ text. IsFetched (H.told shelf.old name.now) text.items) }
+    ensures fails { IfErr result (λ status. FailsToFetch file name.now (record { old = H.faults shelf.old; new = H.faults shelf.new }) (record { old = H.asked shelf.old; new = H.asked shelf.new }) status) }
     ensures told { H.told shelf.new ≡ H.told shelf.old }
-    ensures asked { AsksName name.now (H.asked shelf.old) (H.asked shelf.new) result }
+    ensures asked { OnOk result (H.asked shelf.new ≡ H.asked shelf.old ++ name.now ∷ []) }
     ensures faults { H.faults shelf.old ≤ H.faults shelf.new }
-    ensures failed { IfShelfFault result (Rose (H.faults shelf.old) (H.faults shelf.new)) }
 {
     match shelf.fetch(alloc, name) {
-        Ok(text) => match read_catalogue(alloc, text.as_slice()) {
-            Ok(catalogue) => Ok(catalogue),
-            Err(
-                CatalogueFault::Refused {
-                    why,
-                    relation,
-                    item,
-                },
-            ) => Err(LoadFault::Catalogue {
-                why,
-                relation,
-                item,
-            }),
-            Err(CatalogueFault::NoMemory) => Err(LoadFault::NoMemory),
-        },
-        Err(FetchFault::Failed) => Err(LoadFault::Shelf(ShelfFile::Catalogue)),
-        Err(FetchFault::NoMemory) => Err(LoadFault::NoMemory),
-    }
-}
-
-fn fetch_query<H: Shelf>(
-    alloc: Global,
-    shelf: &mut H,
-    name: &str,
-    relations: &Catalogue,
-) -> Result<Task, LoadFault>
-    requires limits { KeepsLimits relations.now }
-    ensures within { IfOk result IsTaskWithin }
-    ensures query { FetchesQuery relations.now (H.told shelf.old name.now) result }
-    ensures told { H.told shelf.new ≡ H.told shelf.old }
-    ensures asked { AsksName name.now (H.asked shelf.old) (H.asked shelf.new) result }
-    ensures faults { H.faults shelf.old ≤ H.faults shelf.new }
-    ensures failed { IfShelfFault result (Rose (H.faults shelf.old) (H.faults shelf.new)) }
-{
-    match shelf.fetch(alloc, name) {
-        Ok(text) => match task_in(alloc, relations, text.as_slice()) {
-            Ok(task) => Ok(task),
-            Err(ReadFault::Broken(fault)) => Err(LoadFault::Query(fault)),
-            Err(ReadFault::NoMemory) => Err(LoadFault::NoMemory),
-        },
-        Err(FetchFault::Failed) => Err(LoadFault::Shelf(ShelfFile::Query)),
-        Err(FetchFault::NoMemory) => Err(LoadFault::NoMemory),
+        Ok(text) => Ok(text),
+        Err(FetchFault::Failed) => Err(Status::ShelfFault { file }),
+        Err(FetchFault::NoMemory) => Err(Status::NoMemory),
     }
 }

@@ -1,19 +1,20 @@
 //! The call that the program makes.
 
-ghost use Rattle.std.specs.Prelude.{◌≡◌, ◌≢◌, ◌≤◌, ◌++◌, [], ℕ, List, Option};
+ghost use Rattle.std.specs.Prelude.{◌≡◌, ◌≢◌, ◌≤◌, ◌++◌, [], ℕ, List};
+ghost use Rattle.med_prelude.specs.Texts.{Bytes, ToldBytes};
 ghost use Rattle.med_top.specs.Tasks.{IsTaskWithin};
 ghost use Rattle.csv_wrap.specs.Sound.{asked_locations, given_marks};
 ghost use Rattle.med_top.specs.Command.{names_of};
 ghost use Rattle.med_top.specs.Loading.{AsksSome};
 ghost use Rattle.med_top.specs.Members.{Change};
-ghost use Rattle.med_top.specs.Outcomes.{Accepts, HoldsAt, status_of};
+ghost use Rattle.med_top.specs.Outcomes.{Accepts, HoldsAt};
 
 use crate::atoms::read_atoms;
 use crate::command::run_command;
 use crate::finish::finish;
-use crate::load::{LoadFault, load};
+use crate::load::load;
 use crate::outcome::Outcome;
-use crate::task::{Task, TaskFault};
+use crate::task::Task;
 use med_base::{Clock, Gate, Opener, Shelf, Sink, SpillSet, Status};
 use std::alloc::Global;
 use std::thread::Threads;
@@ -55,7 +56,7 @@ pub fn mediate<
       out_faults = record { old = W.faults out.old; new = W.faults out.new };
       members = result.members;
     }) result.status }
-    ensures asked { AsksSome (names_of words.now) (H.asked shelf.old) (H.asked shelf.new) }
+    ensures asked { AsksSome (names_of words.now) (record { old = H.asked shelf.old; new = H.asked shelf.new }) }
     ensures opened { result.status ≢ Status.NoMemory → O.asked opener.new ≡ O.asked opener.old ++ asked_locations result.members }
     ensures given { result.status ≢ Status.NoMemory → O.given opener.new ≡ O.given opener.old ++ given_marks O.S.Source result.members }
     ensures files { result.files ≡ [] }
@@ -68,27 +69,7 @@ pub fn mediate<
     };
     match load(alloc, shelf, catalogue, query) {
         Ok(task) => answer(alloc, opener, out, task),
-        Err(fault) => Outcome::without_run(alloc, status_of(fault)),
-    }
-}
-
-fn status_of(fault: LoadFault) -> Status
-    ensures { result ≡ status_of fault }
-{
-    match fault {
-        LoadFault::Shelf(file) => Status::ShelfFault { file },
-        LoadFault::Catalogue {
-            why,
-            relation,
-            item,
-        } => Status::CatalogueRefused {
-            why,
-            relation,
-            item,
-        },
-        LoadFault::Query(TaskFault::Query { why, at }) => Status::QueryRefused { why, at },
-        LoadFault::Query(TaskFault::Mirrors) => Status::NotBuilt { why: 4 },
-        LoadFault::NoMemory => Status::NoMemory,
+        Err(status) => Outcome::without_run(alloc, status),
     }
 }
 
@@ -100,7 +81,7 @@ fn answer<O: Opener, F, W: Sink>(
     task: Task,
 ) -> Outcome<O::S, F>
     requires { IsTaskWithin task }
-    ensures outcome { (words : List (List ℕ)) (texts : List ℕ → Option (List ℕ)) (shelf_faults : Change ℕ) (shelf_asked : Change (List (List ℕ)))
+    ensures outcome { (words : List Bytes) (texts : Bytes → ToldBytes) (shelf_faults : Change ℕ) (shelf_asked : Change (List Bytes))
         → Accepts words texts task
         → HoldsAt (record {
           source = O.S.Source;

@@ -3,7 +3,7 @@
 ghost use Rattle.std.specs.Prelude.{◌≡◌, ◌≤◌, [], List, IfOk};
 ghost use Rattle.csv_wrap.specs.Wrapped.{HasGiven, SameSource};
 ghost use Rattle.med_top.specs.Taking.{EndsTaking, HasTaken, IsTakenUp};
-ghost use Rattle.tuple_core.specs.declared.value.Value.{Value};
+ghost use Rattle.tuple_core.specs.Values.{RowList};
 
 use csv_wrap::{NextRow, Pulled, Wrapper};
 use med_base::{MemberFault, Source};
@@ -62,8 +62,8 @@ fn take_held<S: Source>(
     wrapper: &mut Wrapper<S>,
     rows: &mut Vec<Row>,
 ) -> Result<Option<MemberFault>, AllocError>
-    requires { (before : List (List Value)) × HasTaken S.Source wrapper.old before rows.old.items }
-    ensures taken { IfOk result (λ _. (before : List (List Value)) → HasTaken S.Source wrapper.old before rows.old.items → HasTaken S.Source wrapper.new before rows.new.items) }
+    requires { (before : RowList) × HasTaken S.Source wrapper.old before rows.old.items }
+    ensures taken { IfOk result (λ _. (before : RowList) → HasTaken S.Source wrapper.old before rows.old.items → HasTaken S.Source wrapper.new before rows.new.items) }
     ensures up { IfOk result (λ fault. IsTakenUp S.Source wrapper.new fault) }
     ensures columns { wrapper.new.ahead.columns ≡ wrapper.old.ahead.columns }
     ensures source { wrapper.new.source ≡ wrapper.old.source }

@@ -4,11 +4,10 @@ ghost use Rattle.std.specs.Prelude.{◌≡◌, IfOk, IfSome, option_map, option_
 ghost use Rattle.cat_reader.specs.Accepted.{IsWithin, KeepsLimits};
 ghost use Rattle.query_reader.specs.Fitting.{FitsRelation};
 ghost use Rattle.std.specs.List.{AllByRecursion};
-ghost use Rattle.med_top.specs.Targets.{IsTargetWithin, only, only_mirrors, target_for, target_of, targets_for};
+ghost use Rattle.med_top.specs.Targets.{IsTargetWithin, one_mirror, only_mirrors, target_for, target_of, targets_for};
 
 use cat_reader::Relation;
-use csv_wrap::copy_columns;
-use query_reader::Atom;
+use query_core::Atom;
 use std::alloc::{AllocError, Global};
 use tuple_core::{Columns, Listed, Text, Words};
 
@@ -60,7 +59,7 @@ fn target_of(alloc: Global, relation: &Relation) -> Result<Option<Target>, Alloc
         return Ok(None);
     };
     Ok(Some(Target {
-        columns: copy_columns(alloc, &relation.columns)?,
+        columns: relation.columns.clone()?,
         locations,
     }))
 }
@@ -70,17 +69,17 @@ fn only_mirrors(alloc: Global, groups: &[Words]) -> Result<Option<Words>, AllocE
 {
     let mut locations = Words::new(alloc);
     for group in groups {
-        let Some(location) = only(group.as_slice()) else {
+        let Some(location) = one_mirror(group.as_slice()) else {
             return Ok(None);
         };
-        locations.push(Text::from_str(alloc, location.as_str())?)?;
+        locations.push(location.clone()?)?;
     }
     Ok(Some(locations))
 }
 
 /// The one mirror of a group that has no more.
-fn only(group: &[Text]) -> Option<&Text>
-    ensures { option_map (λ location. location.now) result ≡ only group.now }
+fn one_mirror(group: &[Text]) -> Option<&Text>
+    ensures { option_map (λ location. location.now) result ≡ one_mirror group.now }
 {
     match group {
         [location] => Some(location),

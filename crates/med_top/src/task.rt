@@ -1,15 +1,17 @@
-//! What a query's text asks to be done.
+//! What the texts of a catalogue and of a query ask to be done.
 
-ghost use Rattle.std.specs.Prelude.{IfOk};
+ghost use Rattle.std.specs.Prelude.{◌≡◌, Ok, IfOk, IfErr};
 ghost use Rattle.cat_reader.specs.Accepted.{KeepsLimits};
-ghost use Rattle.med_prelude.specs.Reading.{Gives};
+ghost use Rattle.cat_reader.specs.Catalogue.{catalogue_of};
 ghost use Rattle.query_reader.specs.Fitting.{FitsCatalogue};
-ghost use Rattle.med_top.specs.Tasks.{IsTaskWithin, task_in, task_of};
+ghost use Rattle.query_reader.specs.Reading.{query_of};
+ghost use Rattle.med_top.specs.Tasks.{FailsAsCatalogue, FailsAsTask, IsTaskOf, IsTaskWithin};
 
 use crate::target::{Targets, targets_for};
-use cat_reader::Catalogue;
-use med_prelude::ReadFault;
-use query_reader::{Query, QueryFault, read_query};
+use cat_reader::{Catalogue, CatalogueFault, read_catalogue};
+use med_base::Status;
+use query_core::Query;
+use query_reader::{QueryFault, read_query};
 use std::alloc::Global;
 
 /// A query, and what is read for each of its atoms.
@@ -19,43 +21,54 @@ pub struct Task {
     pub targets: Targets,
 }
 
-/// Why a query's text gave no task.
-#[derive(Clone, Copy, Debug, PartialEq, Eq)]
-pub enum TaskFault {
-    /// The query is refused: the number of the first check that is broken, and the place in the text.
-    Query { why: u8, at: u64 },
-    /// A group of an atom's relation has more than one mirror.
-    Mirrors,
-}
-
-/// What the query's text asks to be done with the catalogue's relations.
-pub fn task_in(
-    alloc: Global,
-    catalogue: &Catalogue,
-    text: &[u8],
-) -> Result<Task, ReadFault<TaskFault>>
-    requires limits { KeepsLimits catalogue.now }
-    ensures task { Gives result (task_in catalogue.now text.now) }
-    ensures within { IfOk result IsTaskWithin }
+/// The relations that the text of a catalogue spells.
+pub fn catalogue_in(alloc: Global, text: &[u8]) -> Result<Catalogue, Status>
+    ensures says { IfOk result (λ relations. catalogue_of text.now ≡ Ok relations) }
+    ensures limits { IfOk result KeepsLimits }
+    ensures fails { IfErr result (λ status. FailsAsCatalogue text.now status) }
 {
-    match read_query(alloc, text, catalogue) {
-        Ok(query) => task_of(alloc, catalogue, query),
-        Err(QueryFault::Refused { why, at }) => {
-            Err(ReadFault::Broken(TaskFault::Query { why, at }))
-        }
-        Err(QueryFault::NoMemory) => Err(ReadFault::NoMemory),
+    match read_catalogue(alloc, text) {
+        Ok(catalogue) => Ok(catalogue),
+        Err(
+            CatalogueFault::Refused {
+                why,
+                relation,
+                item,
+            },
+        ) => Err(Status::CatalogueRefused {
+            why,
+            relation,
+            item,
+        }),
+        Err(CatalogueFault::NoMemory) => Err(Status::NoMemory),
     }
 }
 
-fn task_of(alloc: Global, catalogue: &Catalogue, query: Query) -> Result<Task, ReadFault<TaskFault>>
-    requires limits { KeepsLimits catalogue.now }
-    requires fits { FitsCatalogue catalogue.now query }
-    ensures task { Gives result (task_of catalogue.now query) }
+/// What the text of a query asks to be done with the catalogue's relations. A query that is refused comes before
+/// mirrors that aren't built.
+pub fn task_in(alloc: Global, relations: &Catalogue, text: &[u8]) -> Result<Task, Status>
+    requires limits { KeepsLimits relations.now }
+    ensures task { IfOk result (λ task. IsTaskOf relations.now text.now task) }
     ensures within { IfOk result IsTaskWithin }
+    ensures fails { IfErr result (λ status. FailsAsTask relations.now text.now status) }
 {
-    match targets_for(alloc, catalogue.as_slice(), query.atoms.as_slice()) {
+    let query = query_in(alloc, relations, text)?;
+    match targets_for(alloc, relations.as_slice(), query.atoms.as_slice()) {
         Ok(Some(targets)) => Ok(Task { query, targets }),
-        Ok(None) => Err(ReadFault::Broken(TaskFault::Mirrors)),
-        Err(_) => Err(ReadFault::NoMemory),
+        Ok(None) => Err(Status::NotBuilt { why: 4 }),
+        Err(_) => Err(Status::NoMemory),
+    }
+}
+
+fn query_in(alloc: Global, relations: &Catalogue, text: &[u8]) -> Result<Query, Status>
+    requires limits { KeepsLimits relations.now }
+    ensures query { IfOk result (λ query. query_of text.now relations.now ≡ Ok query) }
+    ensures fits { IfOk result (λ query. FitsCatalogue relations.now query) }
+    ensures fails { IfErr result (λ status. FailsAsTask relations.now text.now status) }
+{
+    match read_query(alloc, text, relations) {
+        Ok(query) => Ok(query),
+        Err(QueryFault::Refused { why, at }) => Err(Status::QueryRefused { why, at }),
+        Err(QueryFault::NoMemory) => Err(Status::NoMemory),
     }
 }

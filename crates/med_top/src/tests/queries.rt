@@ -128,27 +128,17 @@ fn starves_at_a_later_atom(rt: HostRuntime) -> Result<(), Fail> {
 }
 
 #[test]
-fn queries_are_refused_at_their_places(rt: HostRuntime) -> Result<(), Fail> {
+fn answers_over_five_atoms_and_ten_variables(rt: HostRuntime) -> Result<(), Fail> {
     let alloc = rt.alloc();
-    let nine =
-        "q(x) :- city(x), city(x), city(x), city(x), city(x), city(x), city(x), city(x), city(x).";
-    for (query, why, at) in [
-        ("q(x) :- city(x)", 1, 15),
-        ("q(x) :- town(x).", 2, 8),
-        ("q(x) :- city(x, x).", 3, 8),
-        ("q(x) :- city(x), x < 5.", 4, 17),
-        ("q(y) :- city(x).", 5, 2),
-        ("q(x) :- city(x), y < 5.", 6, 17),
-        (nine, 7, 80),
-    ] {
-        let mut out = sink(alloc);
-        let outcome = run(&rt, alloc, (CATALOGUE, query), &[], &mut out)?;
-        assert_eq!(rt;
-            outcome.status,
-            Status::QueryRefused { why, at },
-            "{query:?}"
-        );
-        assert!(rt; outcome.members.is_empty());
-    }
+    let catalogue =
+        "[[relation]]\nname = \"e\"\ncolumns = [\"x:int\", \"y:int\"]\ngroups = [[\"e\"]]\n";
+    let sites = [Csv("e", "x,y\n1,2\n2,3\n3,4\n4,5\n5,6\n", &[])];
+    let mut out = sink(alloc);
+    let query =
+        "q(a, j) :- e(a, b), e(c, d), e(f, g), e(h, i), e(k, j), b = c, d = f, g = h, i = k.";
+    let outcome = run(&rt, alloc, (catalogue, query), &sites, &mut out)?;
+    assert_eq!(rt; outcome.status, Status::Done);
+    assert_eq!(rt; out.bytes(), b"1,6\n".as_slice());
+    assert_eq!(rt; outcome.members.as_slice().len(), 5);
     Ok(())
 }

@@ -1,6 +1,6 @@
 use Rattle.std.proofs.Common.{◌≡◌, ◌+◌, ◌*◌, ◌-◌, ◌<◌, ◌≤◌, []}
 use Rattle.csv_wrap.specs.Wrapped.{SameSource}
-use Rattle.med_top.specs.Taking.{HasTaken, unended}
+use Rattle.med_top.specs.Taking.{HasTaken, ends_to_come}
 use Rattle.med_top.proofs.taking.take_rows.Given as goal
 
 abbrev pub invariant-pulls : goal.invariant-pulls
@@ -14,4 +14,4 @@ invariant-pulls g l = record {
 }
 
 abbrev pub decreases-pulls : goal.decreases-pulls
-decreases-pulls g l = (g.S.Source.left l.wrapper.source + unended l.wrapper.ahead.framed.ended) * 100001 + (100000 - l.idle)
+decreases-pulls g l = (g.S.Source.left l.wrapper.source + ends_to_come l.wrapper.ahead.framed.ended) * 100001 + (100000 - l.idle)
