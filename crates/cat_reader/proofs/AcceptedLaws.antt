@@ -1,7 +1,7 @@
 -- An accepted catalogue keeps its limits.
 use Rattle.std.proofs.Common.{◌≡◌, ℕ, ◌+◌, ◌≤◌, ◌==◌, ◌||◌, not, Bool, true, false, true≢false, List, [], ◌∷◌, ◌++◌, map, length, Option, Some, None, Ok, refl, sym, subst, if◌then◌else◌, arith, ◌∙◌}
 use Rattle.std.specs.Prelude.{ℤ, codes, is_none, nat_lt, option_and_then, option_map}
-use Rattle.std.specs.List.{AllByRecursion, cons_option, filter_map, list_any}
+use Rattle.std.specs.List.{AllByRecursion, cons_option, filter_map, list_all, list_any}
 use Rattle.std.proofs.lemmas.List.Folds.{list_any-append}
 use Rattle.std.specs.Cmp.Lexicographic.{nat_list_eq_equiv}
 use Rattle.std.specs.Path.{rsplit_once}
@@ -17,11 +17,11 @@ use Rattle.text_reading.specs.Runs.{longest_name}
 use Rattle.text_reading.specs.declared.checks.Broken.{Broken}
 use Rattle.text_reading.proofs.CheckLaws as checks
 use Rattle.text_reading.proofs.FaultLaws.{first_empty, map_empty, none_broken, none_past, not_broken, rest_empty}
-use Rattle.toml_tables.specs.Tables.{text_at}
+use Rattle.toml_tables.specs.Tables.{array_at, has_only, keys_of, text_at}
 use Rattle.cat_reader.specs.Accepted.{AreApart, IsGroupWithin, IsWithin, KeepsLimits, column_names, relation_names}
 use Rattle.cat_reader.specs.Catalogue.{catalogue_of, checks_of, document_checks, document_of, relation_checks, relations_in, relations_of, unless_broken}
 use Rattle.cat_reader.specs.Doubled.{doubled_after, doubled_columns, doubled_names}
-use Rattle.cat_reader.specs.Forms.{is_no_column, is_own_misformed, misformed_columns, misformed_groups, misformed_in, misformed_items, tables_of, where_misformed}
+use Rattle.cat_reader.specs.Forms.{is_no_column, is_own_misformed, is_table, misformed_columns, misformed_groups, misformed_in, misformed_items, relation_keys, some_tables, tables_of, where_misformed}
 use Rattle.cat_reader.specs.Limits.{empty_groups, is_empty_group, is_estimate, is_large_group, is_long_column, is_longer, is_own_broken, items_past_limits, longest_column, longest_location, most_columns, most_groups, most_mirrors, most_relations, no_group}
 use Rattle.cat_reader.specs.Locations.{in_each, is_up_to, of_none, of_relation, where_order}
 use Rattle.cat_reader.specs.Relations.{colon, column_in, column_of, kind_of, name_of, named_kind, relation_in, relation_of, relation_with, rows_of, same_text, values_at}
@@ -134,14 +134,15 @@ each_within (r ∷ rs) formed single limits full grouped =
     (within r formed.0 single.0 limits.0 full.0 grouped.0, each_within rs formed.1 single.1 limits.1 full.1 grouped.1)
 
 -- relations that keep the checks of relations
-all_kept : (rs : List Relation) → AllByRecursion IsFormed rs → AllByRecursion IsKept (relation_checks rs) → KeepsLimits rs
-all_kept rs formed kept =
+all_kept : (rs : List Relation) → 1 ≤ length rs → AllByRecursion IsFormed rs → AllByRecursion IsKept (relation_checks rs) → KeepsLimits rs
+all_kept rs there formed kept =
     let names = doubled_names (relation_names rs) in
     let single = first_empty (map of_relation names) (in_each doubled_columns 0 rs) kept.0 in
     let columns = rest_empty (map of_relation names) (in_each doubled_columns 0 rs) kept.0 in
     let few = first_empty (map of_relation (index_past most_relations rs)) (in_each items_past_limits 0 rs) kept.1.0 in
     let limits = rest_empty (map of_relation (index_past most_relations rs)) (in_each items_past_limits 0 rs) kept.1.0 in
     record {
+      some = there;
       few = none_past most_relations rs (map_empty of_relation (index_past most_relations rs) few);
       apart = apart_after [] 0 (relation_names rs) (map_empty of_relation names single);
       each = each_within rs formed (none_in doubled_columns 0 rs columns) (none_in items_past_limits 0 rs limits) (none_in empty_groups 0 rs kept.1.1.0) (none_in no_group 0 rs kept.1.1.1.0);
@@ -182,9 +183,9 @@ columns_named : (values : List Data) → AllByRecursion (λ (c : Column). 1 ≤ 
 columns_named [] = tt
 columns_named (d ∷ values) = put_named (column_in d) (filter_map column_in values) (column_named d) (columns_named values)
 
-put_some : (c : Option Column) (cs : List Column) → is_none c ≡ false → 1 ≤ length (cons_option c cs)
-put_some None cs e = absurd (true≢false e)
-put_some (Some c) cs e = omega arith
+put_some : {A : Type 0} (x : Option A) (xs : List A) → is_none x ≡ false → 1 ≤ length (cons_option x xs)
+put_some None xs e = absurd (true≢false e)
+put_some (Some x) xs e = omega arith
 
 columns_some : (values : List Data) → (length values == 0) ≡ false → AllByRecursion (λ d. is_no_column d ≡ false) values → 1 ≤ length (filter_map column_in values)
 columns_some [] e all = absurd (true≢false e)
@@ -254,10 +255,78 @@ formed document kept = by (tables_of document) kept
     by None e = tt
     by (Some values) e = all_formed values (none_in misformed_in 0 values e)
 
+-- the relations that tables say
+
+last_two : (a b c : Bool) → (a || b || c) ≡ false → (b ≡ false) × (c ≡ false)
+last_two true b c e = absurd (true≢false e)
+last_two false true c e = absurd (true≢false e)
+last_two false false c e = (refl, e)
+
+both_said : (ms : Members) (name : Option Bytes) (rows : Option ℤ) → is_none name ≡ false → is_none rows ≡ false → is_none (option_and_then (λ n. option_map (relation_with ms n) rows) name) ≡ false
+both_said ms None rows named counted = absurd (true≢false named)
+both_said ms (Some name) None named counted = absurd (true≢false counted)
+both_said ms (Some name) (Some rows) named counted = refl
+
+table_said : (ms : Members) → misformed_items ms ≡ [] → is_none (relation_of ms) ≡ false
+unfolding misformed_items
+table_said ms kept =
+    let own : List ℕ = broken_if (is_own_misformed ms) 0 in
+    let own_kept = not_broken {P = ℕ} (is_own_misformed ms) 0 (first_empty own (misformed_columns ms) (first_empty (own ++ misformed_columns ms) (misformed_groups ms) kept)) in
+    let said = last_two (not (has_only relation_keys ms)) (is_none (name_of ms)) (is_none (rows_of ms)) own_kept in
+    both_said ms (name_of ms) (rows_of ms) said.0 said.1
+
+in_said : (d : Data) → misformed_in d ≡ [] → is_none (relation_in d) ≡ false
+unfolding misformed_in relation_in
+in_said d kept = by (as_table d) kept
+  where
+    by : (table : Option Members) → (elim table as (λ _. List ℕ) [ None ↦ 0 ∷ [] | Some ms ↦ misformed_items ms ]) ≡ [] → is_none (option_and_then relation_of table) ≡ false
+    by None e = cc
+    by (Some ms) e = table_said ms e
+
+some_said : (tables : List Data) → (length tables == 0) ≡ false → AllByRecursion (λ d. misformed_in d ≡ []) tables → 1 ≤ length (filter_map relation_in tables)
+some_said [] e kept = absurd (true≢false e)
+some_said (d ∷ tables) e kept = put_some (relation_in d) (filter_map relation_in tables) (in_said d kept.0)
+
+-- the tables of a document are some
+abbrev HasTable : Option (List Data) → Type 0
+HasTable None = Unit {0}
+HasTable (Some values) = (length values == 0) ≡ false
+
+if_tables : (values : List Data) (b : Bool) → (length values == 0) ≡ false → HasTable (if b then Some values else None)
+if_tables values true e = e
+if_tables values false e = tt
+
+some_there : (values : List Data) → HasTable (some_tables values)
+some_there values = by (length values == 0) refl
+  where
+    by : (b : Bool) → (length values == 0) ≡ b → HasTable (if b then None else (if list_all is_table values then Some values else None))
+    by true e = tt
+    by false e = if_tables values (list_all is_table values) e
+
+array_there : (values : Option (List Data)) → HasTable (option_and_then some_tables values)
+array_there None = tt
+array_there (Some values) = some_there values
+
+tables_there : (document : Members) → HasTable (tables_of document)
+tables_there document = by (length (keys_of document) == 1)
+  where
+    by : (b : Bool) → HasTable (if b then option_and_then some_tables (array_at (codes "relation") document) else None)
+    by true = array_there (array_at (codes "relation") document)
+    by false = tt
+
+some_relation : (document : Members) → where_misformed document ≡ [] → 1 ≤ length (relations_of document)
+unfolding where_misformed relations_of
+some_relation document kept = by (tables_of document) (tables_there document) kept
+  where
+    by : (tables : Option (List Data)) → HasTable tables → (elim tables as (λ _. List Where) [ None ↦ of_none ∷ [] | Some values ↦ in_each misformed_in 0 values ]) ≡ []
+        → 1 ≤ length (elim tables as (λ _. List Relation) [ None ↦ [] | Some values ↦ filter_map relation_in values ])
+    by None there e = cc
+    by (Some values) there e = some_said values there (none_in misformed_in 0 values e)
+
 -- what the checks let through
 kept_within : (document : Option Members) → AllByRecursion IsKept (document_checks document) → KeepsLimits (relations_in document)
 kept_within None kept = absurd (cc)
-kept_within (Some document) kept = all_kept (relations_of document) (formed document kept.1.0) kept.1.1
+kept_within (Some document) kept = all_kept (relations_of document) (some_relation document kept.1.0) (formed document kept.1.0) kept.1.1
 
 accepted : (text : Bytes) (given : List Relation) (told : Option (Broken Where)) → IsExact is_up_to (checks_of text) told → unless_broken told (relations_in (document_of text)) ≡ Ok given → KeepsLimits given
 accepted text given None kept e = let it : relations_in (document_of text) ≡ given = cc in subst KeepsLimits it (kept_within (document_of text) kept.1)

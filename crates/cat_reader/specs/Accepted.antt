@@ -42,8 +42,9 @@ pub record IsWithin (r : Relation) : Type 0 where
   pub mirrors : AllByRecursion IsGroupWithin r.groups
   pub rows : is_estimate r.rows ≡ true
 
--- there are at most 256 relations of different names, each within its limits
+-- there are 1 to 256 relations of different names, each within its limits
 pub record KeepsLimits (rs : List Relation) : Type 0 where
+  pub some : 1 ≤ length rs
   pub few : length rs ≤ most_relations
   pub apart : AreApart (relation_names rs)
   pub each : AllByRecursion IsWithin rs
