@@ -1,7 +1,7 @@
 -- What a spill file holds, and what the answers of a file and of a set of files say.
 use Rattle.std.specs.Prelude.{◌≡◌, ⊤, ℕ, ◌+◌, ◌-◌, ◌<◌, ◌≤◌, ◌⊎◌, min, List, [], ◌∷◌, ◌++◌, length, take, drop, Some, None, IfSome, Result, Ok, Err}
 use Rattle.med_prelude.specs.Counts.{Rose}
-use Rattle.med_prelude.specs.Texts.{Bytes, ToldBytes, grown}
+use Rattle.med_prelude.specs.Texts.{Bytes, ToldBytes, told_with}
 use Rattle.med_base.specs.declared.outside.OutsideFault.{OutsideFault}
 use Rattle.med_base.specs.declared.outside.OutsideFault.TheVariants as outside
 use Rattle.med_base.specs.declared.outside.spill.SpillFault.{SpillFault}
@@ -56,7 +56,7 @@ pub record IsSameFile (old new : FileState) : Type 0 where
 pub record AppendsBytes (old : FileState) (bytes : Bytes) (at : ℕ) (new : FileState) : Type 0 where
   pub start : at ≡ file_length old
   pub fits : file_length old + length bytes ≤ old.limit
-  pub told : file_content new ≡ grown (file_content old) bytes
+  pub told : file_content new ≡ told_with (file_content old) bytes
   pub len : file_length new ≡ file_length old + length bytes
   pub past_end : old.past_end ≡ [] → new.past_end ≡ []
   pub same : IsSameFile old new

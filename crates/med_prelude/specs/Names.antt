@@ -2,6 +2,7 @@
 use Rattle.std.specs.Prelude.{ℕ, nat_le, ◌==◌, ◌&&◌, ◌||◌, not, Bool, false, List, [], ◌∷◌, nat_eq, codes}
 use Rattle.std.specs.List.{list_all}
 use Rattle.std.specs.Cmp.Lexicographic.{pointwise}
+use Rattle.med_prelude.specs.Texts.{Bytes}
 
 -- an ASCII letter
 unfoldable pub starts_name : ℕ → Bool
@@ -12,13 +13,13 @@ unfoldable pub continues_name : ℕ → Bool
 continues_name b = starts_name b || (nat_le 48 b && nat_le b 57) || (b == 95)
 
 -- a letter and then letters, digits or `_`
-abbrev pub spells_name : List ℕ → Bool
+abbrev pub spells_name : Bytes → Bool
 spells_name [] = false
 spells_name (b ∷ bytes) = starts_name b && list_all continues_name bytes
 
-unfoldable pub is_truth_word : List ℕ → Bool
+unfoldable pub is_truth_word : Bytes → Bool
 is_truth_word bytes = pointwise nat_eq bytes (codes "true") || pointwise nat_eq bytes (codes "false")
 
 -- a name of any length: the two truth values are none
-abbrev pub is_name : List ℕ → Bool
+abbrev pub is_name : Bytes → Bool
 is_name bytes = spells_name bytes && not (is_truth_word bytes)

@@ -15,12 +15,12 @@ abbrev pub IsText : Bytes → Type 0
 IsText bytes = is_utf8 bytes ≡ true
 
 -- told bytes with more after them
-abbrev pub grown : ToldBytes → Bytes → ToldBytes
-grown told more = option_map (λ bytes. bytes ++ more) told
+abbrev pub told_with : ToldBytes → Bytes → ToldBytes
+told_with told more = option_map (λ bytes. bytes ++ more) told
 
 -- the bytes are the first of the text
 abbrev pub IsPrefix : Bytes → Bytes → Type 0
-IsPrefix bytes text = (rest : List ℕ) × (bytes ++ rest ≡ text)
+IsPrefix bytes text = (rest : Bytes) × (bytes ++ rest ≡ text)
 
 -- what holds of two texts where both are told
 abbrev pub IfBothTold : ToldBytes → ToldBytes → (Bytes → Bytes → Type 0) → Type 0

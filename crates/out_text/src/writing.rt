@@ -3,7 +3,7 @@
 ghost use Rattle.std.specs.Prelude.{◌≡◌, ℕ, ◌≤◌, OnOk, OnErr, take};
 ghost use Rattle.med_base.specs.Outside.{IfFailed};
 ghost use Rattle.med_prelude.specs.Counts.{Rose};
-ghost use Rattle.med_prelude.specs.Texts.{grown};
+ghost use Rattle.med_prelude.specs.Texts.{told_with};
 ghost use Rattle.tuple_core.specs.RowText.{rows_text};
 
 use crate::output::write_all;
@@ -14,8 +14,8 @@ use tuple_core::Rows;
 
 /// Writes a line of CSV for each row. Where that fails, a prefix of the text is written.
 pub fn write_rows<W: Sink>(alloc: Global, rows: &Rows, out: &mut W) -> Result<(), SinkFault>
-    ensures ok { OnOk result (W.written out.new ≡ grown (W.written out.old) (rows_text rows.now)) }
-    ensures err { OnErr result ((n : ℕ) × (W.written out.new ≡ grown (W.written out.old) (take n (rows_text rows.now)))) }
+    ensures ok { OnOk result (W.written out.new ≡ told_with (W.written out.old) (rows_text rows.now)) }
+    ensures err { OnErr result ((n : ℕ) × (W.written out.new ≡ told_with (W.written out.old) (take n (rows_text rows.now)))) }
     ensures faults { W.faults out.old ≤ W.faults out.new }
     ensures failed { IfFailed result (Rose (W.faults out.old) (W.faults out.new)) }
 {

@@ -10,8 +10,8 @@ use std::path::PathBuf;
 use std::rt::Env;
 use std::{env, io};
 
-/// The folder of the system for temporary files, which the variable `TMPDIR` names. Where its name isn't UTF-8
-/// there is none: no other folder takes its place.
+/// The folder of the system for temporary files, which the variable `TMPDIR` names. Where it can't be
+/// named, as where its name isn't UTF-8, there is none, and no other folder is taken; want of memory is passed on.
 pub fn spill_folder<R: Env + AllocGlobal>(rt: &R) -> Result<Option<Text>, AllocError> {
     named_folder(rt.alloc(), env::temp_dir(rt))
 }

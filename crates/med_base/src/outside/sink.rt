@@ -2,7 +2,7 @@
 
 ghost use Rattle.std.specs.Prelude.{◌≡◌, ◌≤◌, ℕ, [], length, Ok, IfOk};
 ghost use Rattle.med_prelude.specs.Counts.{Rose};
-ghost use Rattle.med_prelude.specs.Texts.{ToldBytes, grown};
+ghost use Rattle.med_prelude.specs.Texts.{ToldBytes, told_with};
 ghost use Rattle.med_base.specs.Outside.{IfFailed, bytes_written, TakesSomeByte};
 
 use crate::outside::SinkFault;
@@ -26,7 +26,7 @@ pub trait Sink {
         ensures fits { IfOk result (λ n. n ≤ length piece.now) }
         ensures some { IfOk result (λ n. TakesSomeByte n piece.now) }
         ensures empty { piece.now ≡ [] → (result ≡ Ok 0) × (faults self.new ≡ faults self.old) }
-        ensures written { written self.new ≡ grown (written self.old) (bytes_written result piece.now) }
+        ensures written { written self.new ≡ told_with (written self.old) (bytes_written result piece.now) }
         ensures faults { faults self.old ≤ faults self.new }
         ensures failed { IfFailed result (Rose (faults self.old) (faults self.new)) };
 }

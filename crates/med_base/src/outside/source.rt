@@ -2,7 +2,7 @@
 
 ghost use Rattle.std.specs.Prelude.{◌≡◌, ◌+◌, ◌≤◌, ℕ, length};
 ghost use Rattle.med_prelude.specs.Counts.{Rose};
-ghost use Rattle.med_prelude.specs.Texts.{Bytes, ToldBytes, grown, IfBothTold, IsPrefix};
+ghost use Rattle.med_prelude.specs.Texts.{Bytes, ToldBytes, told_with, IfBothTold, IsPrefix};
 ghost use Rattle.med_base.specs.Outside.{bytes_count, bytes_given, FitsRoom, EndsOnlyWhole, IfPullFailed, CountsWait, dry_after, StaysTold};
 
 /// What a pull gave.
@@ -21,6 +21,9 @@ pub enum Pull {
 /// pulled again after each answer; bytes that come after a failure go on where those before it stopped. Why it
 /// failed isn't told. A pull takes no memory, so there is no answer for want of it. Dropping a source closes what
 /// it reads.
+///
+/// A clause that is added to `pull` is added to `IsOnePull` too (`csv_wrap/specs/Pulls.antt`), which says that a call
+/// made just one.
 pub trait Source: Drop {
     /// What a mark is: data that no call changes, by which an opener names what it gave.
     type Mark;
@@ -52,7 +55,7 @@ pub trait Source: Drop {
     /// The next bytes, as many as it has at hand and the room takes. Behind them the room's bytes aren't stated.
     fn pull(&mut self, room: &mut [u8]) -> Pull
         ensures fits { FitsRoom result room.new }
-        ensures taken { taken self.new ≡ grown (taken self.old) (bytes_given result room.new) }
+        ensures taken { taken self.new ≡ told_with (taken self.old) (bytes_given result room.new) }
         ensures prefix { IfBothTold (taken self.old) (whole self.old) IsPrefix → IfBothTold (taken self.new) (whole self.new) IsPrefix }
         ensures end { EndsOnlyWhole result (length room.new) (taken self.new) (whole self.new) }
         ensures whole { StaysTold (whole self.old) (whole self.new) }

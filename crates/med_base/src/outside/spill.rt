@@ -79,8 +79,8 @@ pub trait SpillSet {
 ///
 /// What was appended stays as it is. `Full` comes exactly where the bytes would pass the file's limit, and changes
 /// nothing. Only want of memory, in an append, may be answered without the file's count of faults having risen.
-/// A failed append leaves the length and what stood there; what it may have left past the end is overwritten by
-/// the next one, and a read may see it until then.
+/// A failed append leaves the length and what stood there. It may have left anything past the end, and the next
+/// append begins at the old end; what is past that one's own end may still be seen.
 pub trait Spill: Drop {
     /// Its number and limit, its content with its length, and how often it failed.
     ghost state: { Self → FileState };
