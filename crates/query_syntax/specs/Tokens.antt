@@ -3,7 +3,7 @@ use Rattle.std.specs.Prelude.{ℕ, ◌+◌, ◌==◌, ◌&&◌, List, [], ◌∷
 use Rattle.med_prelude.specs.Names.{starts_name}
 use Rattle.med_prelude.specs.Texts.{Bytes}
 use Rattle.text_reading.specs.Lexing.{Lexeme, Lexicon, lexeme, lexemes_from}
-use Rattle.text_reading.specs.Quoted.{quoted_text}
+use Rattle.text_reading.specs.Quoted.{quote, quoted_text}
 use Rattle.text_reading.specs.Runs.{begins_blank, begins_integer, integer_run, is_blank, name_in, name_run}
 use Rattle.tuple_core.specs.Parsing.{parsed_value}
 use Rattle.tuple_core.specs.declared.columns.Kind.TheVariants as kind
@@ -79,7 +79,7 @@ token_at at [] = None
 token_at at (b ∷ bytes) =
     if starts_name b then word_at at (take (name_run (b ∷ bytes)) (b ∷ bytes))
     else if begins_integer b then integer_at at (take (integer_run (b ∷ bytes)) (b ∷ bytes))
-    else if b == 34 then text_at at bytes
+    else if b == quote then text_at at bytes
     else sign_at (b ∷ bytes)
 
 abbrev pub lexicon : Lexicon Token

@@ -1,7 +1,7 @@
 //! Texts in double quotes, in which a quote is doubled.
 
 ghost use Rattle.std.specs.Prelude.{◌≡◌, ℕ, ◌+◌, false, List, ◌∷◌, ◌++◌, length, Some, IfOk};
-ghost use Rattle.text_reading.specs.Quoted.{IsQuoted, begins_quote, with_quotes_doubled, quoted_text};
+ghost use Rattle.text_reading.specs.Quoted.{IsQuoted, begins_quote, quote, quoted_text, with_quotes_doubled};
 
 use med_prelude::Listed;
 use std::alloc::{AllocError, Global};
@@ -32,6 +32,6 @@ pub fn quoted_text(alloc: Global, bytes: &[u8]) -> Result<Option<(Listed<u8>, us
 /// quote but another quote; and what is read was written so.
 pub fn quoted_is_read_back()
     ensures back { (text rest : List ℕ) → begins_quote rest ≡ false
-        → quoted_text (with_quotes_doubled text ++ (34 ∷ rest)) ≡ Some (text, length (with_quotes_doubled text) + 1) }
+        → quoted_text (with_quotes_doubled text ++ (quote ∷ rest)) ≡ Some (text, length (with_quotes_doubled text) + 1) }
     ensures written { (bytes text : List ℕ) (taken : ℕ) → quoted_text bytes ≡ Some (text, taken) → IsQuoted text taken bytes }
 {}
