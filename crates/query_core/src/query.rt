@@ -7,7 +7,7 @@ use tuple_core::Rows;
 /// A part of a query's body that asks for the rows of a relation.
 #[derive(Debug, Drop)]
 pub struct Atom {
-    /// The number of the relation, in the catalogue's order.
+    /// The index of the relation in the catalogue.
     pub relation: u32,
     /// A term for each column.
     pub terms: Listed<Term>,

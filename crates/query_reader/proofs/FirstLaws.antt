@@ -4,8 +4,8 @@ use Rattle.std.specs.Prelude.{is_some}
 use Rattle.std.specs.List.{find, list_any, position_or_len}
 use Rattle.cat_reader.specs.Relations.{same_text}
 use Rattle.cat_reader.specs.declared.catalogue.Relation.{Relation}
-use Rattle.query_reader.specs.Directories.{relation_positions}
-use Rattle.query_reader.specs.Reading.{relation_position}
+use Rattle.query_reader.specs.Directories.{relation_indices}
+use Rattle.query_reader.specs.Reading.{relation_index}
 use Rattle.query_reader.specs.Mentions.{first_mentions, has_name, number_named, value_named}
 use Rattle.query_reader.proofs.MentionLaws.{same_name}
 
@@ -63,11 +63,11 @@ module _ {X : Type 0} (name : List ℕ) where
 -- ---- a relation by its position
 
 -- a position is at most how many relations there are
-pub position_within : (name : List ℕ) (relations : List Relation) → relation_position relations name ≤ length relations
+pub position_within : (name : List ℕ) (relations : List Relation) → relation_index relations name ≤ length relations
 position_within name [] = omega arith
 position_within name (r ∷ relations) = by (same_text name r.name) (position_within name relations)
   where
-    by : (b : Bool) → relation_position relations name ≤ length relations → cond (not b) (1 + relation_position relations name) 0 ≤ suc (length relations)
+    by : (b : Bool) → relation_index relations name ≤ length relations → cond (not b) (1 + relation_index relations name) 0 ≤ suc (length relations)
     by true within = omega arith
     by false within = omega arith
 
@@ -82,13 +82,13 @@ pub record IsMissing (name : List ℕ) (relations : List Relation) : Type 0 wher
   pub number : length relations ≡ position_or_len (λ (r : Relation). same_text name r.name) relations
 
 module _ (name : List ℕ) where
-  at_from : (k : ℕ) (relations : List Relation) (position : ℕ) → Some position ≡ value_named (relation_positions k relations) name → (j : ℕ) × (position ≡ k + j) × IsAt name relations j
+  at_from : (k : ℕ) (relations : List Relation) (position : ℕ) → Some position ≡ value_named (relation_indices k relations) name → (j : ℕ) × (position ≡ k + j) × IsAt name relations j
   at_from k [] position found = cc
   at_from k (r ∷ relations) position found = by (same_text name r.name) refl (at_from (k + 1) relations position) found
     where
       by : (b : Bool) → same_text name r.name ≡ b
-          → (Some position ≡ value_named (relation_positions (k + 1) relations) name → (j : ℕ) × (position ≡ k + 1 + j) × IsAt name relations j)
-          → Some position ≡ option_map (λ (n : List ℕ × ℕ). n.1) (cond b (Some (r.name, k)) (find (λ (n : List ℕ × ℕ). same_text name n.0) (relation_positions (k + 1) relations)))
+          → (Some position ≡ value_named (relation_indices (k + 1) relations) name → (j : ℕ) × (position ≡ k + 1 + j) × IsAt name relations j)
+          → Some position ≡ option_map (λ (n : List ℕ × ℕ). n.1) (cond b (Some (r.name, k)) (find (λ (n : List ℕ × ℕ). same_text name n.0) (relation_indices (k + 1) relations)))
           → (j : ℕ) × (position ≡ k + j) × IsAt name (r ∷ relations) j
       by true e rest found =
           let here : position ≡ k = cc in (
@@ -110,13 +110,13 @@ module _ (name : List ℕ) where
             },
           )
 
-  missing_from : (k : ℕ) (relations : List Relation) → None ≡ value_named (relation_positions k relations) name → IsMissing name relations
+  missing_from : (k : ℕ) (relations : List Relation) → None ≡ value_named (relation_indices k relations) name → IsMissing name relations
   missing_from k [] missing = record { relation = refl; number = refl }
   missing_from k (r ∷ relations) missing = by (same_text name r.name) refl (missing_from (k + 1) relations) missing
     where
       by : (b : Bool) → same_text name r.name ≡ b
-          → (None ≡ value_named (relation_positions (k + 1) relations) name → IsMissing name relations)
-          → None ≡ option_map (λ (n : List ℕ × ℕ). n.1) (cond b (Some (r.name, k)) (find (λ (n : List ℕ × ℕ). same_text name n.0) (relation_positions (k + 1) relations)))
+          → (None ≡ value_named (relation_indices (k + 1) relations) name → IsMissing name relations)
+          → None ≡ option_map (λ (n : List ℕ × ℕ). n.1) (cond b (Some (r.name, k)) (find (λ (n : List ℕ × ℕ). same_text name n.0) (relation_indices (k + 1) relations)))
           → IsMissing name (r ∷ relations)
       by true e rest missing = cc
       by false e rest missing =
@@ -128,14 +128,14 @@ module _ (name : List ℕ) where
           }
 
   -- what a directory finds
-  pub found_at : (relations : List Relation) (positions : List (List ℕ × ℕ)) (position : ℕ) → positions ≡ first_mentions (relation_positions 0 relations)
+  pub found_at : (relations : List Relation) (positions : List (List ℕ × ℕ)) (position : ℕ) → positions ≡ first_mentions (relation_indices 0 relations)
       → Some position ≡ value_named positions name → IsAt name relations position
   found_at relations positions position is found =
-      let at = at_from 0 relations position (found ∙ ap (λ (ns : List (List ℕ × ℕ)). value_named ns name) is ∙ value_of_firsts name (relation_positions 0 relations)) in
+      let at = at_from 0 relations position (found ∙ ap (λ (ns : List (List ℕ × ℕ)). value_named ns name) is ∙ value_of_firsts name (relation_indices 0 relations)) in
       let same : position ≡ at.0 = omega (arith, at.1) in
       rw same at.2
 
-  pub found_none : (relations : List Relation) (positions : List (List ℕ × ℕ)) → positions ≡ first_mentions (relation_positions 0 relations)
+  pub found_none : (relations : List Relation) (positions : List (List ℕ × ℕ)) → positions ≡ first_mentions (relation_indices 0 relations)
       → None ≡ value_named positions name → IsMissing name relations
   found_none relations positions is missing =
-      missing_from 0 relations (missing ∙ ap (λ (ns : List (List ℕ × ℕ)). value_named ns name) is ∙ value_of_firsts name (relation_positions 0 relations))
+      missing_from 0 relations (missing ∙ ap (λ (ns : List (List ℕ × ℕ)). value_named ns name) is ∙ value_of_firsts name (relation_indices 0 relations))

@@ -4,6 +4,6 @@ use Rattle.med_prelude.specs.Texts.{Bytes}
 use Rattle.cat_reader.specs.declared.catalogue.Relation.{Relation}
 
 -- each relation's name with its position, where the first one has this position
-abbrev pub relation_positions : ℕ → List Relation → List (Bytes × ℕ)
-relation_positions position [] = []
-relation_positions position (relation ∷ more) = (relation.name, position) ∷ relation_positions (position + 1) more
+abbrev pub relation_indices : ℕ → List Relation → List (Bytes × ℕ)
+relation_indices position [] = []
+relation_indices position (relation ∷ more) = (relation.name, position) ∷ relation_indices (position + 1) more

@@ -27,8 +27,8 @@ use Rattle.query_reader.specs.declared.reading.QueryFault.{QueryFault}
 use Rattle.query_reader.specs.declared.reading.QueryFault.TheVariants.{Refused, NoMemory}
 
 -- the position of the relation in the catalogue
-abbrev pub relation_position : List Relation → Bytes → ℕ
-relation_position catalogue name = position_or_len (λ r. same_text name r.name) catalogue
+abbrev pub relation_index : List Relation → Bytes → ℕ
+relation_index catalogue name = position_or_len (λ r. same_text name r.name) catalogue
 
 -- a variable by its number among those of the query, or a constant
 abbrev pub term_of : List Occurrence → NamedTerm → Term
@@ -37,7 +37,7 @@ term_of variables (written.Constant constant) = Constant constant
 
 abbrev pub atom_of : List Relation → List Occurrence → WrittenAtom → Atom
 atom_of catalogue variables atom = record {
-  relation = relation_position catalogue atom.relation.name;
+  relation = relation_index catalogue atom.relation.name;
   terms = map (λ term. term_of variables term.written) atom.terms;
 }
 

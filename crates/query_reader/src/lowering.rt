@@ -2,7 +2,7 @@
 
 ghost use Rattle.std.specs.Prelude.{◌≡◌, ◌≤◌, ◌<◌, ◌^◌, length, map, IfOk};
 ghost use Rattle.query_reader.specs.Limits.{most_variables};
-ghost use Rattle.query_reader.specs.Reading.{atom_of, comparison_of, query_of_pieces, relation_position, term_of};
+ghost use Rattle.query_reader.specs.Reading.{atom_of, comparison_of, query_of_pieces, relation_index, term_of};
 ghost use Rattle.query_reader.specs.Mentions.{number_named};
 
 use crate::mentions::Names;
@@ -55,7 +55,7 @@ fn terms_of(
 #[tactic(auto, using(crate::proofs::FirstLaws::position_within))]
 fn relation_of(directory: &Directory<'_>, name: &str) -> u32
     requires few { length directory.now < 2 ^ 32 }
-    ensures { result ≡ relation_position directory.now name.now }
+    ensures { result ≡ relation_index directory.now name.now }
 {
     directory.position_of(name) as u32
 }

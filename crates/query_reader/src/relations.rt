@@ -3,8 +3,8 @@
 ghost use Rattle.std.specs.Prelude.{◌≡◌, option_map, slice_get, IfOk};
 ghost use Rattle.query_reader.specs.Checks.{is_unknown};
 ghost use Rattle.query_reader.specs.Kinds.{relation_named, columns_of};
-ghost use Rattle.query_reader.specs.Reading.{relation_position};
-ghost use Rattle.query_reader.specs.Directories.{relation_positions};
+ghost use Rattle.query_reader.specs.Reading.{relation_index};
+ghost use Rattle.query_reader.specs.Directories.{relation_indices};
 
 use crate::mentions::{Mention, Names, first_mentions};
 use cat_reader::{Catalogue, Relation};
@@ -23,14 +23,14 @@ pub struct Directory<'a> {
 impl<'a> Model for Directory<'a> {
     ghost use Rattle.std.specs.Prelude.{List, ◌≡◌};
     ghost use Rattle.cat_reader.specs.declared.catalogue.Relation.{Relation as ARelation};
-    ghost use Rattle.query_reader.specs.Directories.{relation_positions};
+    ghost use Rattle.query_reader.specs.Directories.{relation_indices};
     ghost use Rattle.query_reader.specs.Mentions.{first_mentions};
 
     ghost Value = { List ARelation };
 
     ghost view = { λ d. d.relations.now };
 
-    ghost invariant = { λ d. d.positions ≡ first_mentions (relation_positions 0 d.relations.now) };
+    ghost invariant = { λ d. d.positions ≡ first_mentions (relation_indices 0 d.relations.now) };
 }
 
 impl<'a> Directory<'a> {
@@ -38,7 +38,7 @@ impl<'a> Directory<'a> {
         ensures { IfOk result (λ d. d ≡ catalogue.now) }
     {
         let relations = catalogue.as_slice();
-        let positions = relation_positions(alloc, relations)?;
+        let positions = relation_indices(alloc, relations)?;
         Ok(Directory {
             relations,
             positions: first_mentions(alloc, positions.as_slice())?,
@@ -75,7 +75,7 @@ impl<'a> Directory<'a> {
 
     /// The position of the relation, or how many there are where it isn't in the catalogue.
     pub fn position_of(&self, name: &str) -> usize
-        ensures { result ≡ relation_position self.now name.now }
+        ensures { result ≡ relation_index self.now name.now }
     {
         match self.positions.value_of(name) {
             Some(position) => position,
@@ -91,11 +91,11 @@ fn relation_at(relations: &[Relation], position: usize) -> Option<&Relation>
 }
 
 /// The name of each relation, with its position.
-fn relation_positions(
+fn relation_indices(
     alloc: Global,
     relations: &[Relation],
 ) -> Result<Vec<Mention<'_, usize>>, AllocError>
-    ensures { IfOk result (λ names. names.items ≡ relation_positions 0 relations.now) }
+    ensures { IfOk result (λ names. names.items ≡ relation_indices 0 relations.now) }
 {
     let mut names = Vec::new(alloc);
     for (position, relation) in relations.iter().enumerate() {

@@ -123,11 +123,7 @@ fn gather(row: &[Value], positions: &[usize], into: &mut Vec<Value>) -> Result<(
 fn copy_values(alloc: Global, row: &[Value]) -> Result<Vec<Value>, AllocError>
     ensures { IfOk result (λ copies. copies.items ≡ row.now) }
 {
-    let mut copies = Vec::new(alloc);
-    for value in row {
-        copies.push(value.clone()?)?;
-    }
-    Ok(copies)
+    Vec::from_clones(alloc, row)
 }
 
 fn append(alloc: Global, left: &[u32], right: &[u32]) -> Result<Vec<u32>, AllocError>
