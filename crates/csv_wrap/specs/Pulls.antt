@@ -6,7 +6,7 @@ use Rattle.med_base.specs.declared.outside.source.Pull.{Pull}
 use Rattle.med_base.specs.declared.outside.source.Pull.TheVariants as pull
 use Rattle.med_base.specs.Outside.{CountsWait, EndsOnlyWhole, FitsRoom, IfPullFailed, StaysTold, bytes_count, bytes_given, dry_after}
 use Rattle.med_prelude.specs.Counts.{Rose}
-use Rattle.med_prelude.specs.Texts.{Bytes, IfBothTold, IsPrefix, grown}
+use Rattle.med_prelude.specs.Texts.{Bytes, IfBothTold, IsPrefix, told_with}
 use Rattle.csv_frame.specs.Holding.{HoldsNone}
 use Rattle.csv_wrap.specs.Wrapped.{Wrapped, fault_of}
 use Rattle.csv_wrap.specs.declared.wrapper.Came.{Came}
@@ -17,7 +17,7 @@ use Rattle.csv_wrap.specs.declared.wrapper.Pulled.TheVariants as pulled
 -- the new source is what one pull makes of the old, where it gives this answer and leaves the room so
 pub record IsOnePull {S M : Type 0} (source : Source S M) (old new : S) (answer : Pull) (room : Bytes) : Type 0 where
   pub fits : FitsRoom answer room
-  pub taken : source.taken new ≡ grown (source.taken old) (bytes_given answer room)
+  pub taken : source.taken new ≡ told_with (source.taken old) (bytes_given answer room)
   pub prefix : IfBothTold (source.taken old) (source.whole old) IsPrefix → IfBothTold (source.taken new) (source.whole new) IsPrefix
   pub end : EndsOnlyWhole answer (length room) (source.taken new) (source.whole new)
   pub whole : StaysTold (source.whole old) (source.whole new)

@@ -22,8 +22,10 @@ mod reading;
 mod run_rows;
 mod wrapper;
 
+pub use med_base::{MemberFault, MemberName, MemberState, Source};
 pub use members::{MemberEnd, Members};
 pub use reading::{SourceRows, read_rows};
+pub use tuple_core::{Columns, Row, Text};
 pub use wrapper::{NextRow, Pulled, Wrapper};
 
 #[cfg(test)]
