@@ -112,10 +112,10 @@ module _ {S M : Type 0} (source : Source S M) (told : Bytes → ToldBytes) where
   -- ---- a run so far, whatever comes for the atoms that are left
 
   abbrev pub EndsSoFar : List Target → ℕ → ℕ → ℕ → List (MemberEnd S) → List (List Row) → RunEnd → Type 0
-  EndsSoFar targets place old new members rows run.Settled = AllByRecursion HasEnded members
-      × ((ms : List (MemberEnd S)) (more : List (List Row)) → AreRead source told (place + 1) (drop place targets) ms more → AreRead source told 1 targets (members ++ ms) (rows ++ more))
-  EndsSoFar targets place old new members rows (run.Starved group) = StopsAt members (HasFailed old new group)
-  EndsSoFar targets place old new members rows run.Stalled = StopsAt members (HasStalled source)
+  EndsSoFar targets index old new members rows run.Settled = AllByRecursion HasEnded members
+      × ((ms : List (MemberEnd S)) (more : List (List Row)) → AreRead source told (index + 1) (drop index targets) ms more → AreRead source told 1 targets (members ++ ms) (rows ++ more))
+  EndsSoFar targets index old new members rows (run.Starved group) = StopsAt members (HasFailed old new group)
+  EndsSoFar targets index old new members rows run.Stalled = StopsAt members (HasStalled source)
 
   stops_behind : (stops stops_too : MemberEnd S → Type 0) (members own : List (MemberEnd S)) → ((m : MemberEnd S) → stops m → stops_too m)
       → AllByRecursion HasEnded members → StopsAt own stops → StopsAt (members ++ own) stops_too
@@ -144,37 +144,37 @@ module _ {S M : Type 0} (source : Source S M) (told : Bytes → ToldBytes) where
   rose_after : (first old new : ℕ) → old ≤ new → Rose first old → Rose first new
   rose_after first old new up rose = grind (arith)
 
-  next_place : (targets : List Target) (place : ℕ) (target : Target) → place < length targets → target ≡ slice_index_or targets place target
-      → (P : ℕ → List Target → Type 0) → P (place + 1) (target ∷ drop (place + 1) targets) → P (place + 1) (drop place targets)
-  next_place targets place target within is P p =
-      let next : place + 1 ≡ suc place = omega arith in
-      rw (drop_at targets place target within is) (subst (λ n. P (place + 1) (target ∷ drop n targets)) next p)
+  next_index : (targets : List Target) (index : ℕ) (target : Target) → index < length targets → target ≡ slice_index_or targets index target
+      → (P : ℕ → List Target → Type 0) → P (index + 1) (target ∷ drop (index + 1) targets) → P (index + 1) (drop index targets)
+  next_index targets index target within is P p =
+      let next : index + 1 ≡ suc index = omega arith in
+      rw (drop_at targets index target within is) (subst (λ n. P (index + 1) (target ∷ drop n targets)) next p)
 
-  module _ (targets : List Target) (place : ℕ) (target : Target) (first old new : ℕ) (members own : List (MemberEnd S)) (rows : List (List Row)) (came : List Row)
-      (lower : first ≤ old) (up : old ≤ new) (within : place < length targets) (is : target ≡ slice_index_or targets place target)
-      (are : AreMembers source target.columns told (place + 1) 1 target.locations own) where
-    settled_on : (after : RunEnd) → EndsRun source target.columns old new own came after → EndsSoFar targets place first old members rows run.Settled
-        → EndsSoFar targets (place + 1) first new (members ++ own) (rows ++ came ∷ []) after
+  module _ (targets : List Target) (index : ℕ) (target : Target) (first old new : ℕ) (members own : List (MemberEnd S)) (rows : List (List Row)) (came : List Row)
+      (lower : first ≤ old) (up : old ≤ new) (within : index < length targets) (is : target ≡ slice_index_or targets index target)
+      (are : AreMembers source target.columns told (index + 1) 1 target.locations own) where
+    settled_on : (after : RunEnd) → EndsRun source target.columns old new own came after → EndsSoFar targets index first old members rows run.Settled
+        → EndsSoFar targets (index + 1) first new (members ++ own) (rows ++ came ∷ []) after
     settled_on run.Settled ends so_far = (
       all_append HasEnded members own so_far.0 ends.0,
       λ ms more behind. rw (append_assoc members own ms, append_assoc rows (came ∷ []) more)
-          (so_far.1 (own ++ ms) (came ∷ more) (next_place targets place target within is (λ n left. AreRead source told n left (own ++ ms) (came ∷ more))
+          (so_far.1 (own ++ ms) (came ∷ more) (next_index targets index target within is (λ n left. AreRead source told n left (own ++ ms) (came ∷ more))
           (own, ms, came, more, refl, refl, are, ends.1, behind))),
     )
     settled_on (run.Starved group) ends so_far = stops_behind (HasFailed old new group) (HasFailed first new group) members own
         (λ m failed. record { failed = failed.failed; named = failed.named; opening = λ none. rose_before first old new lower (failed.opening none) }) so_far.0 ends
     settled_on run.Stalled ends so_far = stops_behind (HasStalled source) (HasStalled source) members own (λ m stalled. stalled) so_far.0 ends
 
-    stopped_on : (end : RunEnd) → (end ≡ run.Settled → ⊥) → AllByRecursion IsIdle own → EndsSoFar targets place first old members rows end
-        → EndsSoFar targets (place + 1) first new (members ++ own) (rows ++ came ∷ []) end
+    stopped_on : (end : RunEnd) → (end ≡ run.Settled → ⊥) → AllByRecursion IsIdle own → EndsSoFar targets index first old members rows end
+        → EndsSoFar targets (index + 1) first new (members ++ own) (rows ++ came ∷ []) end
     stopped_on run.Settled stopped idle so_far = absurd (stopped refl)
     stopped_on (run.Starved group) stopped idle so_far = stays_stopped (HasFailed first old group) (HasFailed first new group) members own
         (λ m failed. record { failed = failed.failed; named = failed.named; opening = λ none. rose_after first old new up (failed.opening none) }) idle so_far
     stopped_on run.Stalled stopped idle so_far = stays_stopped (HasStalled source) (HasStalled source) members own (λ m stalled. stalled) idle so_far
 
     pub ends_on : (end after : RunEnd) → (end ≡ run.Settled → EndsRun source target.columns old new own came after)
-        → ((end ≡ run.Settled → ⊥) → AllByRecursion IsIdle own × (after ≡ end)) → EndsSoFar targets place first old members rows end
-        → EndsSoFar targets (place + 1) first new (members ++ own) (rows ++ came ∷ []) after
+        → ((end ≡ run.Settled → ⊥) → AllByRecursion IsIdle own × (after ≡ end)) → EndsSoFar targets index first old members rows end
+        → EndsSoFar targets (index + 1) first new (members ++ own) (rows ++ came ∷ []) after
     ends_on run.Settled after ends stays so_far = settled_on after (ends refl) so_far
     ends_on (run.Starved group) after ends stays so_far =
         let left = stays (λ e. cc e) in rw (left.1) (stopped_on (run.Starved group) (λ e. cc e) left.0 so_far)
@@ -182,21 +182,21 @@ module _ {S M : Type 0} (source : Source S M) (told : Bytes → ToldBytes) where
         let left = stays (λ e. cc e) in rw (left.1) (stopped_on run.Stalled (λ e. cc e) left.0 so_far)
 
     -- the members so far have those of one more atom behind them
-    pub atom_members : ((more : List (MemberEnd S)) → AreAllMembers source told (place + 1) (drop place targets) more → AreAllMembers source told 1 targets (members ++ more))
-        → (more : List (MemberEnd S)) → AreAllMembers source told (place + 1 + 1) (drop (place + 1) targets) more → AreAllMembers source told 1 targets ((members ++ own) ++ more)
+    pub atom_members : ((more : List (MemberEnd S)) → AreAllMembers source told (index + 1) (drop index targets) more → AreAllMembers source told 1 targets (members ++ more))
+        → (more : List (MemberEnd S)) → AreAllMembers source told (index + 1 + 1) (drop (index + 1) targets) more → AreAllMembers source told 1 targets ((members ++ own) ++ more)
     atom_members so_far more behind =
-        rw (append_assoc members own more) (so_far (own ++ more) (next_place targets place target within is (λ n left. AreAllMembers source told n left (own ++ more)) (own, more, refl, are, behind)))
+        rw (append_assoc members own more) (so_far (own ++ more) (next_index targets index target within is (λ n left. AreAllMembers source told n left (own ++ more)) (own, more, refl, are, behind)))
 
-  pub all_members : (targets : List Target) (place : ℕ) (members : List (MemberEnd S)) → length targets ≤ place
-      → ((more : List (MemberEnd S)) → AreAllMembers source told (place + 1) (drop place targets) more → AreAllMembers source told 1 targets (members ++ more))
+  pub all_members : (targets : List Target) (index : ℕ) (members : List (MemberEnd S)) → length targets ≤ index
+      → ((more : List (MemberEnd S)) → AreAllMembers source told (index + 1) (drop index targets) more → AreAllMembers source told 1 targets (members ++ more))
       → AreAllMembers source told 1 targets members
-  all_members targets place members all so_far =
-      subst (AreAllMembers source told 1 targets) (append-nil members) (so_far [] (rw (drop_all place targets all) refl))
+  all_members targets index members all so_far =
+      subst (AreAllMembers source told 1 targets) (append-nil members) (so_far [] (rw (drop_all index targets all) refl))
 
-  pub ends_all : (targets : List Target) (place old new : ℕ) (members : List (MemberEnd S)) (rows : List (List Row)) (end : RunEnd) → length targets ≤ place
-      → EndsSoFar targets place old new members rows end → EndsAtoms source targets old new members rows end
-  ends_all targets place old new members rows run.Settled all so_far =
-      let read = so_far.1 [] [] (rw (drop_all place targets all) (refl, refl)) in
+  pub ends_all : (targets : List Target) (index old new : ℕ) (members : List (MemberEnd S)) (rows : List (List Row)) (end : RunEnd) → length targets ≤ index
+      → EndsSoFar targets index old new members rows end → EndsAtoms source targets old new members rows end
+  ends_all targets index old new members rows run.Settled all so_far =
+      let read = so_far.1 [] [] (rw (drop_all index targets all) (refl, refl)) in
       (so_far.0, read_arrived 1 targets [] members rows tt (rw (append-nil members, append-nil rows) at read))
-  ends_all targets place old new members rows (run.Starved group) all so_far = so_far
-  ends_all targets place old new members rows run.Stalled all so_far = so_far
+  ends_all targets index old new members rows (run.Starved group) all so_far = so_far
+  ends_all targets index old new members rows run.Stalled all so_far = so_far

@@ -146,27 +146,27 @@ given_more {M = M} source (member ∷ members) more =
 pub appended : {A : Type 0} (old mid new xs ys all : List A) → mid ≡ old ++ xs → new ≡ mid ++ ys → all ≡ xs ++ ys → new ≡ old ++ all
 appended old mid new xs ys all first second is = second ∙ ap (λ front. front ++ ys) first ∙ append_assoc old xs ys ∙ ap (λ more. old ++ more) (sym is)
 
-pub drop_at : {A : Type 0} (xs : List A) (place : ℕ) (x : A) → place < length xs → x ≡ slice_index_or xs place x → drop place xs ≡ x ∷ drop (suc place) xs
-drop_at [] place x within is = absurd (omega (arith, within))
+pub drop_at : {A : Type 0} (xs : List A) (index : ℕ) (x : A) → index < length xs → x ≡ slice_index_or xs index x → drop index xs ≡ x ∷ drop (suc index) xs
+drop_at [] index x within is = absurd (omega (arith, within))
 drop_at (y ∷ ys) zero x within is = ap (λ first. first ∷ ys) (sym is)
-drop_at (y ∷ ys) (suc place) x within is = drop_at ys place x (omega (arith, within)) is
+drop_at (y ∷ ys) (suc index) x within is = drop_at ys index x (omega (arith, within)) is
 
 -- the members so far have one more behind them, whatever the others will be
-pub members_on : {S M : Type 0} (source : Source S M) (columns : List Column) (told : Bytes → ToldBytes) (atom : ℕ) (locations : List Bytes) (place : ℕ) (at : Bytes) (name : MemberName) (member : MemberEnd S) (old new : List (MemberEnd S))
-    → place < length locations → at ≡ slice_index_or locations place at → name ≡ member_of atom (place + 1) → IsMemberOf source columns told name.atom name.group at member → new ≡ old ++ member ∷ []
-    → ((more : List (MemberEnd S)) → AreMembers source columns told atom (place + 1) (drop place locations) more → AreMembers source columns told atom 1 locations (old ++ more))
-    → (more : List (MemberEnd S)) → AreMembers source columns told atom (place + 1 + 1) (drop (place + 1) locations) more → AreMembers source columns told atom 1 locations (new ++ more)
-members_on source columns told atom locations place at name member old new within is named is_member grown so_far more behind =
-    let next : place + 1 ≡ suc place = omega arith in
-    rw (grown, append_assoc old (member ∷ []) more) (so_far (member ∷ more) (rw (drop_at locations place at within is) (subst (λ n. IsMemberOf source columns told n.atom n.group at member) named is_member, subst (λ n. AreMembers source columns told atom (place + 1 + 1) (drop n locations) more) next behind)))
+pub members_on : {S M : Type 0} (source : Source S M) (columns : List Column) (told : Bytes → ToldBytes) (atom : ℕ) (locations : List Bytes) (index : ℕ) (at : Bytes) (name : MemberName) (member : MemberEnd S) (old new : List (MemberEnd S))
+    → index < length locations → at ≡ slice_index_or locations index at → name ≡ member_of atom (index + 1) → IsMemberOf source columns told name.atom name.group at member → new ≡ old ++ member ∷ []
+    → ((more : List (MemberEnd S)) → AreMembers source columns told atom (index + 1) (drop index locations) more → AreMembers source columns told atom 1 locations (old ++ more))
+    → (more : List (MemberEnd S)) → AreMembers source columns told atom (index + 1 + 1) (drop (index + 1) locations) more → AreMembers source columns told atom 1 locations (new ++ more)
+members_on source columns told atom locations index at name member old new within is named is_member grown so_far more behind =
+    let next : index + 1 ≡ suc index = omega arith in
+    rw (grown, append_assoc old (member ∷ []) more) (so_far (member ∷ more) (rw (drop_at locations index at within is) (subst (λ n. IsMemberOf source columns told n.atom n.group at member) named is_member, subst (λ n. AreMembers source columns told atom (index + 1 + 1) (drop n locations) more) next behind)))
 
 -- all locations have their members
-pub members_all : {S M : Type 0} (source : Source S M) (columns : List Column) (told : Bytes → ToldBytes) (atom : ℕ) (locations : List Bytes) (place : ℕ) (members : List (MemberEnd S))
-    → length locations ≤ place
-    → ((more : List (MemberEnd S)) → AreMembers source columns told atom (place + 1) (drop place locations) more → AreMembers source columns told atom 1 locations (members ++ more))
+pub members_all : {S M : Type 0} (source : Source S M) (columns : List Column) (told : Bytes → ToldBytes) (atom : ℕ) (locations : List Bytes) (index : ℕ) (members : List (MemberEnd S))
+    → length locations ≤ index
+    → ((more : List (MemberEnd S)) → AreMembers source columns told atom (index + 1) (drop index locations) more → AreMembers source columns told atom 1 locations (members ++ more))
     → AreMembers source columns told atom 1 locations members
-members_all source columns told atom locations place members all so_far =
-    subst (AreMembers source columns told atom 1 locations) (append-nil members) (so_far [] (rw (drop_all place locations all) tt))
+members_all source columns told atom locations index members all so_far =
+    subst (AreMembers source columns told atom 1 locations) (append-nil members) (so_far [] (rw (drop_all index locations all) tt))
 
 -- behind a run that had ended already, one more is left alone
 pub stays_on : {S : Type 0} (member : MemberEnd S) (members more : List (MemberEnd S)) {before mid after : RunEnd} → more ≡ members ++ member ∷ []

@@ -9,7 +9,7 @@ use Rattle.med_base.specs.declared.status.ShelfFile.{ShelfFile}
 use Rattle.med_base.specs.declared.status.Status.{Status}
 use Rattle.med_base.specs.declared.status.Status.TheVariants as status
 use Rattle.med_prelude.specs.Counts.{Rose}
-use Rattle.med_prelude.specs.Texts.{Bytes, ToldBytes, grown}
+use Rattle.med_prelude.specs.Texts.{Bytes, ToldBytes, told_with}
 use Rattle.tuple_core.specs.Values.{RowList}
 use Rattle.query_core.specs.Answers.{answer_text}
 use Rattle.query_core.specs.declared.query.Query.{Query}
@@ -63,13 +63,13 @@ IsAnswer call task text = IfSome (all_arrivals call.source call.members 1 task.t
 -- every group is settled, and the whole text of the answer was written
 abbrev pub WritesAnswer : {S M : Type 0} → Call S M → Task → Type 0
 WritesAnswer call task = AllByRecursion HasEnded call.members
-    × (text : Bytes) × IsAnswer call task text × (call.written.new ≡ grown call.written.old text)
+    × (text : Bytes) × IsAnswer call task text × (call.written.new ≡ told_with call.written.old text)
 
 -- every group is settled, the sink failed, and a prefix of the answer's text was written
 abbrev pub WritesPrefix : {S M : Type 0} → Call S M → Task → Type 0
 WritesPrefix call task = AllByRecursion HasEnded call.members
     × Rose call.out_faults.old call.out_faults.new
-    × (text : Bytes) × IsAnswer call task text × (n : ℕ) × (call.written.new ≡ grown call.written.old (take n text))
+    × (text : Bytes) × IsAnswer call task text × (n : ℕ) × (call.written.new ≡ told_with call.written.old (take n text))
 
 -- the call has the words of a command, of which this holds
 abbrev pub IfCommand : {S M : Type 0} → Call S M → (Bytes → Bytes → Type 0) → Type 0
@@ -120,8 +120,8 @@ HoldsAt call (status.Differs file kept found) = ⊥
 
 -- what the writing of the answer of a settled run comes to
 abbrev pub FinishesAnswer : Change (ToldBytes) → Change ℕ → Query → List RowList → Status → Type 0
-FinishesAnswer written faults query rows status.Done = written.new ≡ grown written.old (answer_text query rows)
-FinishesAnswer written faults query rows status.OutFault = Rose faults.old faults.new × (n : ℕ) × (written.new ≡ grown written.old (take n (answer_text query rows)))
+FinishesAnswer written faults query rows status.Done = written.new ≡ told_with written.old (answer_text query rows)
+FinishesAnswer written faults query rows status.OutFault = Rose faults.old faults.new × (n : ℕ) × (written.new ≡ told_with written.old (take n (answer_text query rows)))
 FinishesAnswer written faults query rows status.NoMemory = ⊤
 FinishesAnswer written faults query rows other = ⊥
 

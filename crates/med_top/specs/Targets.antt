@@ -1,5 +1,5 @@
 -- What is read for the atoms of a query: relations whose groups have one mirror each.
-use Rattle.std.specs.Prelude.{ℕ, ◌≤◌, List, [], ◌∷◌, length, slice_get, Option, Some, None, option_map, option_and_then}
+use Rattle.std.specs.Prelude.{⊤, ◌≡◌, ℕ, ◌≤◌, List, [], ◌∷◌, length, slice_get, Option, Some, None, option_map, option_and_then}
 use Rattle.std.specs.List.{AllByRecursion}
 use Rattle.cat_reader.specs.declared.catalogue.Relation.{Relation}
 use Rattle.query_core.specs.declared.query.Atom.{Atom}
@@ -38,3 +38,10 @@ pub record IsTargetWithin (target : Target) : Type 0 where
 pub record AreTargetsWithin (targets : List Target) : Type 0 where
   pub few : length targets ≤ 8
   pub each : AllByRecursion IsTargetWithin targets
+
+-- each atom has a term for each column of its target
+abbrev pub HaveTerms : List Atom → List Target → Type 0
+HaveTerms [] [] = ⊤
+HaveTerms [] (target ∷ targets) = ⊥
+HaveTerms (atom ∷ atoms) [] = ⊥
+HaveTerms (atom ∷ atoms) (target ∷ targets) = (length atom.terms ≡ length target.columns) × HaveTerms atoms targets

@@ -9,7 +9,7 @@ use Rattle.med_prelude.specs.Texts.{Bytes}
 use Rattle.query_reader.specs.Reading.{query_of}
 use Rattle.query_core.specs.declared.query.Query.{Query}
 use Rattle.text_reading.specs.Checks.{broken_at}
-use Rattle.med_top.specs.Targets.{AreTargetsWithin, targets_for}
+use Rattle.med_top.specs.Targets.{AreTargetsWithin, HaveTerms, targets_for}
 use Rattle.med_top.specs.declared.task.Task.{Task}
 
 -- the text of a catalogue is refused by that check, at an item of a relation
@@ -42,7 +42,8 @@ FailsAsTask relations text failed = (failed ≡ status.NoMemory)
     ⊎ ((why : ℕ) × (at : ℕ) × (failed ≡ status.QueryRefused why at) × RefusesQuery relations text why at)
     ⊎ ((failed ≡ status.NotBuilt 4) × AsksMirrors relations text)
 
--- at most 64 variables in the head, and at most 8 atoms
+-- at most 64 variables in the head, at most 8 atoms, and each of these has a term for each column of its target
 pub record IsTaskWithin (task : Task) : Type 0 where
   pub head : length task.query.head ≤ 64
   pub targets : AreTargetsWithin task.targets
+  pub terms : HaveTerms task.query.atoms task.targets

@@ -39,8 +39,8 @@ pub fn read_atoms<O: Opener>(
         arrivals: Vec::new(alloc),
         end: RunEnd::Settled,
     };
-    for (place, target) in targets.iter().enumerate() {
-        read_next(alloc, opener, &mut read, target, place as u32 + 1)?;
+    for (index, target) in targets.iter().enumerate() {
+        read_next(alloc, opener, &mut read, target, index as u32 + 1)?;
     }
     Ok(read)
 }

@@ -55,13 +55,13 @@ pub fn read_groups<O: Opener>(
         rows: Vec::new(alloc),
         end,
     };
-    for (place, location) in target.locations.as_slice().iter().enumerate() {
+    for (index, location) in target.locations.as_slice().iter().enumerate() {
         read_next(
             alloc,
             opener,
             &mut read,
             &target.columns,
-            name_of(atom, place),
+            name_of(atom, index),
             location,
         )?;
     }
@@ -69,13 +69,13 @@ pub fn read_groups<O: Opener>(
 }
 
 /// The one mirror of the group at a position.
-fn name_of(atom: u32, place: usize) -> MemberName
-    requires { place < 16 }
-    ensures { result ≡ member_of atom (place + 1) }
+fn name_of(atom: u32, index: usize) -> MemberName
+    requires { index < 16 }
+    ensures { result ≡ member_of atom (index + 1) }
 {
     MemberName {
         atom,
-        group: place as u32 + 1,
+        group: index as u32 + 1,
         mirror: 1,
     }
 }

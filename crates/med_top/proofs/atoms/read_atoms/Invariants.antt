@@ -6,11 +6,11 @@ use Rattle.med_top.proofs.AtomLaws.{EndsSoFar}
 use Rattle.med_top.proofs.atoms.read_atoms.Given as goal
 
 -- what holds of the atoms so far, whatever the members of the others will be
-abbrev pub invariant-loop-place : goal.invariant-loop-place
-invariant-loop-place g l = record {
-  members : (more : List (MemberEnd g.row.O-S.Denot)) → AreAllMembers g.O.S.Source (g.O.Opener.told l.fn.opener) (l.place + 1) (drop l.place l.targets) more
+abbrev pub invariant-loop-index : goal.invariant-loop-index
+invariant-loop-index g l = record {
+  members : (more : List (MemberEnd g.row.O-S.Denot)) → AreAllMembers g.O.S.Source (g.O.Opener.told l.fn.opener) (l.index + 1) (drop l.index l.targets) more
       → AreAllMembers g.O.S.Source (g.O.Opener.told l.fn.opener) 1 l.targets (l.read.members ++ more);
-  ends : EndsSoFar g.O.S.Source (g.O.Opener.told l.fn.opener) l.targets l.place (g.O.Opener.faults l.fn.opener) (g.O.Opener.faults l.opener) l.read.members l.read.arrivals.items l.read.end;
+  ends : EndsSoFar g.O.S.Source (g.O.Opener.told l.fn.opener) l.targets l.index (g.O.Opener.faults l.fn.opener) (g.O.Opener.faults l.opener) l.read.members l.read.arrivals.items l.read.end;
   asked : g.O.Opener.asked l.opener ≡ g.O.Opener.asked l.fn.opener ++ asked_locations l.read.members;
   given : g.O.Opener.given l.opener ≡ g.O.Opener.given l.fn.opener ++ given_marks g.O.S.Source l.read.members;
   faults : g.O.Opener.faults l.fn.opener ≤ g.O.Opener.faults l.opener;

@@ -7,9 +7,9 @@ use Rattle.std.specs.List.{AllByRecursion}
 use Rattle.med_top.proofs.groups.read_groups.Given as goal
 
 -- what holds of the groups so far, whatever the members of the others will be
-abbrev pub invariant-loop-place : goal.invariant-loop-place
-invariant-loop-place g l = record {
-  members : (more : List (MemberEnd g.row.O-S.Denot)) → AreMembers g.O.S.Source l.target.columns (g.O.Opener.told l.fn.opener) l.atom (l.place + 1) (drop l.place l.target.locations) more
+abbrev pub invariant-loop-index : goal.invariant-loop-index
+invariant-loop-index g l = record {
+  members : (more : List (MemberEnd g.row.O-S.Denot)) → AreMembers g.O.S.Source l.target.columns (g.O.Opener.told l.fn.opener) l.atom (l.index + 1) (drop l.index l.target.locations) more
       → AreMembers g.O.S.Source l.target.columns (g.O.Opener.told l.fn.opener) l.atom 1 l.target.locations (l.read.members ++ more);
   ends : l.fn.end ≡ run.Settled → EndsRun g.O.S.Source l.target.columns (g.O.Opener.faults l.fn.opener) (g.O.Opener.faults l.opener) l.read.members l.read.rows.items l.read.end;
   stays : (l.fn.end ≡ run.Settled → ⊥) → AllByRecursion IsIdle l.read.members × (l.read.end ≡ l.fn.end);
