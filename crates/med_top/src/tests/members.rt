@@ -12,6 +12,23 @@ fn byte_by_byte(alloc: Global, text: &str) -> Result<Vec<Turn>, AllocError> {
     Ok(turns)
 }
 
+/// What one member's CSV prints, pulled by these turns, and how many rows of it are accepted.
+fn assert_prints<R: Threads + Sync + Abort>(
+    rt: &R,
+    alloc: Global,
+    csv: &Csv<'_>,
+    text: &str,
+    accepted: u64,
+) -> Result<(), AllocError> {
+    let mut out = sink(alloc);
+    let outcome = run(rt, alloc, (CATALOGUE, QUERY), &[*csv], &mut out)?;
+    assert_eq!(rt; outcome.status, Status::Done);
+    assert_eq!(rt; out.bytes(), text.as_bytes());
+    assert_eq!(rt; outcome.members.as_slice().len(), 1);
+    assert_eq!(rt; outcome.members.as_slice()[0].accepted, accepted);
+    Ok(())
+}
+
 #[test]
 fn prints_sorted_distinct_rows(rt: HostRuntime) -> Result<(), Fail> {
     let alloc = rt.alloc();
@@ -21,16 +38,9 @@ fn prints_sorted_distinct_rows(rt: HostRuntime) -> Result<(), Fail> {
         ("x\nparis\noslo\nparis", "oslo\nparis\n", 3),
         ("x\r\n\"a \"\"b\"\"\nc\"\r\n", "\"a \"\"b\"\"\nc\"\n", 1),
     ] {
+        assert_prints(&rt, alloc, &Csv("a", csv, &[]), text, accepted)?;
         let slow = byte_by_byte(alloc, csv)?;
-        for turns in [[].as_slice(), slow.as_slice()] {
-            let mut out = sink(alloc);
-            let sites = [Csv("a", csv, turns)];
-            let outcome = run(&rt, alloc, (CATALOGUE, QUERY), &sites, &mut out)?;
-            assert_eq!(rt; outcome.status, Status::Done, "{csv:?}");
-            assert_eq!(rt; out.bytes(), text.as_bytes(), "{csv:?}");
-            assert_eq!(rt; outcome.members.as_slice().len(), 1);
-            assert_eq!(rt; outcome.members.as_slice()[0].accepted, accepted, "{csv:?}");
-        }
+        assert_prints(&rt, alloc, &Csv("a", csv, slow.as_slice()), text, accepted)?;
     }
     Ok(())
 }
