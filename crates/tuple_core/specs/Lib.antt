@@ -1,6 +1,7 @@
 pub mod Comparing
 pub mod Decoding
 pub mod Distinct
+pub mod Encoded
 pub mod Encoding
 pub mod Hashing
 pub mod Order
