@@ -25,14 +25,14 @@ front_back count front x e =
 unsigned_below : (z : ℤ) → FitsSigned w64 z → cast_unsigned w64 z < 2 ^ 64
 unsigned_below z fits = search (ints, arith)
 
-integer_back : (z : ℤ) (x : List ℕ) → FitsSigned w64 z → integer_and_rest (to_be_bytes w64 (cast_unsigned w64 z) ++ x) ≡ Some (z, x)
+pub integer_back : (z : ℤ) (x : List ℕ) → FitsSigned w64 z → integer_and_rest (to_be_bytes w64 (cast_unsigned w64 z) ++ x) ≡ Some (z, x)
 unfolding integer_and_rest
 integer_back z x fits =
     ap (λ o. o >>= λ y. Some (cast_signed w64 (from_be_bytes w64 y.0), y.1)) (front_back 8 (to_be_bytes w64 (cast_unsigned w64 z)) x refl)
     ∙ ap (λ n. Some (cast_signed w64 n, x)) (from_be_bytes-to_be_bytes_8 (cast_unsigned w64 z) (unsigned_below z fits))
     ∙ ap (λ y. Some (y, x)) (to_z-of_z w64 z fits)
 
-text_bytes_back : (bytes x : List ℕ) → length bytes ≤ longest_text → text_bytes_and_rest (to_be_bytes w32 (length bytes) ++ (bytes ++ x)) ≡ Some (bytes, x)
+pub text_bytes_back : (bytes x : List ℕ) → length bytes ≤ longest_text → text_bytes_and_rest (to_be_bytes w32 (length bytes) ++ (bytes ++ x)) ≡ Some (bytes, x)
 unfolding text_bytes_and_rest
 text_bytes_back bytes x short =
     let small : length bytes < 2 ^ 32 = omega arith in
@@ -55,7 +55,7 @@ value_back (value.Text bytes) x fits = ap (option_map (λ y. (value.Text y.0, y.
 value_back (value.Bool true) x fits = refl
 value_back (value.Bool false) x fits = refl
 
-values_back : (row : List Value) (x : List ℕ) → AllByRecursion FitsValue row → values_and_rest (length row) (flat_map value_encoding row ++ x) ≡ Some (row, x)
+pub values_back : (row : List Value) (x : List ℕ) → AllByRecursion FitsValue row → values_and_rest (length row) (flat_map value_encoding row ++ x) ≡ Some (row, x)
 unfolding values_and_rest
 values_back [] x fits = refl
 values_back (v ∷ row) x fits =

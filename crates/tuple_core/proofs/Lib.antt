@@ -2,6 +2,7 @@ pub mod Back
 pub mod Digits
 pub mod Numerals
 pub mod Ranks
+pub mod Seen
 pub mod Sound
 pub mod TextBytes
 pub mod ValueByValue

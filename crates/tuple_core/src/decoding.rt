@@ -30,7 +30,7 @@ enum Unread {
 }
 
 #[tactic(auto, unfolding(crate::specs::Decoding::front_and_rest, crate::specs::Decoding::integer_and_rest))]
-fn read_integer(bytes: &[u8]) -> Option<(i64, &[u8])>
+pub(crate) fn read_integer(bytes: &[u8]) -> Option<(i64, &[u8])>
     ensures { option_map (λ x. (x.0, x.1.now)) result ≡ integer_and_rest bytes.now }
 {
     let (number, rest) = bytes.split_first_chunk::<8>()?;
@@ -38,7 +38,7 @@ fn read_integer(bytes: &[u8]) -> Option<(i64, &[u8])>
 }
 
 #[tactic(auto, unfolding(crate::specs::Decoding::truth_and_rest))]
-fn read_truth(bytes: &[u8]) -> Option<(bool, &[u8])>
+pub(crate) fn read_truth(bytes: &[u8]) -> Option<(bool, &[u8])>
     ensures { option_map (λ x. (x.0, x.1.now)) result ≡ truth_and_rest bytes.now }
 {
     match bytes.split_first() {
@@ -49,7 +49,7 @@ fn read_truth(bytes: &[u8]) -> Option<(bool, &[u8])>
 }
 
 #[tactic(auto, unfolding(crate::specs::Decoding::front_and_rest, crate::specs::Decoding::text_bytes_and_rest))]
-fn text_bytes(bytes: &[u8]) -> Option<(&[u8], &[u8])>
+pub(crate) fn text_bytes(bytes: &[u8]) -> Option<(&[u8], &[u8])>
     ensures { option_map (λ x. (x.0.now, x.1.now)) result ≡ text_bytes_and_rest bytes.now }
 {
     let (length, rest) = bytes.split_first_chunk::<4>()?;

@@ -37,7 +37,7 @@ pub use columns::{Column, Columns, Kind};
 pub use comparing::{Op, compare, row_order};
 pub use decoding::{DecodeFault, decode};
 pub use distinct::sorted_distinct;
-pub use encoded::{EncodedRow, ValueRef};
+pub use encoded::{EncodedRow, EncodedValues, ValueRef};
 pub use encoding::{encode, weight};
 pub use hashing::{bucket_of, hash};
 pub use keys::KeyRoom;
