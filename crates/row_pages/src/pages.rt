@@ -3,6 +3,7 @@
 ghost use Rattle.std.specs.Prelude.{◌≡◌, ◌+◌, ◌<◌, ◌≤◌, ◌++◌, [], ◌∷◌, length, IfOk, OnOk, OnErr};
 ghost use Rattle.row_pages.specs.Lying.{Gains, Grows, Lies, greatest_offset, page_at, piece_at};
 ghost use Rattle.tuple_core.specs.Encoding.{row_encoding};
+ghost use Rattle.tuple_core.specs.Values.{FitsRow};
 
 use std::alloc::{AllocError, Global};
 use std::marker::Model;
@@ -65,7 +66,7 @@ impl Page {
 pub struct Pages {
     pages: Vec<Page>,
     // The page in which short byte strings are put now.
-    open: usize,
+    open: u32,
 }
 
 impl Model for Pages {
@@ -88,26 +89,25 @@ impl Pages {
         }
     }
 
-    fn add_page(&mut self, alloc: Global, room: usize) -> Result<usize, AllocError>
+    fn add_page(&mut self, alloc: Global, room: usize) -> Result<u32, AllocError>
         ensures ok { OnOk result (self.new ≡ self.old ++ [] ∷ []) }
         ensures last { IfOk result (λ number. number ≡ length self.old) }
-        ensures number { IfOk result (λ number. number ≤ greatest_offset) }
         ensures err { OnErr result (self.new ≡ self.old) }
     {
         let number = self.pages.len();
         if number > u32::MAX as usize {
             return Err(AllocError);
         }
+        let number = number as u32;
         let bytes = Vec::with_capacity(alloc, room)?;
         self.pages.push(Page { bytes })?;
         Ok(number)
     }
 
     // The number of a page that has so many bytes free: the open one, or a new one.
-    fn page_for(&mut self, alloc: Global, size: usize) -> Result<usize, AllocError>
+    fn page_for(&mut self, alloc: Global, size: usize) -> Result<u32, AllocError>
         ensures grows { Grows self.old self.new }
         ensures within { IfOk result (λ number. number < length self.new) }
-        ensures number { IfOk result (λ number. number ≤ greatest_offset) }
         ensures room { IfOk result (λ number. length (page_at self.new number) + size ≤ greatest_offset) }
     {
         if size > GREATEST_OFFSET {
@@ -116,7 +116,7 @@ impl Pages {
         if size > PAGE {
             return self.add_page(alloc, size);
         }
-        if let Some(page) = self.pages.get(self.open) {
+        if let Some(page) = self.pages.get(self.open as usize) {
             if page.len() <= PAGE - size {
                 return Ok(self.open);
             }
@@ -133,11 +133,11 @@ impl Pages {
         ensures piece { IfOk result (λ spot. piece_at self.new spot ≡ piece.now) }
     {
         let number = self.page_for(alloc, piece.len())?;
-        let page = &mut self.pages[number];
+        let page = &mut self.pages[number as usize];
         let start = page.len();
         page.put(piece)?;
         Ok(Spot {
-            page: number as u32,
+            page: number,
             start: start as u32,
             end: page.len() as u32,
         })
@@ -148,13 +148,14 @@ impl Pages {
         ensures grows { Grows self.old self.new }
         ensures lies { IfOk result (Lies self.new) }
         ensures piece { IfOk result (λ spot. piece_at self.new spot ≡ front.now ++ row_encoding row.now) }
+        ensures fits { FitsRow row.now }
     {
         let number = self.page_for(alloc, front.len() + weight(row) as usize)?;
-        let page = &mut self.pages[number];
+        let page = &mut self.pages[number as usize];
         let start = page.len();
         page.put_row(alloc, front, row)?;
         Ok(Spot {
-            page: number as u32,
+            page: number,
             start: start as u32,
             end: page.len() as u32,
         })

@@ -3,6 +3,7 @@
 ghost use Rattle.std.specs.Prelude.{◌≡◌, ◌==◌, ◌<◌, ◌++◌, [], ◌∷◌, length, map, slice_get, slice_index_or, option_map, All, OnOk, OnErr};
 ghost use Rattle.med_prelude.specs.Texts.{Bytes};
 ghost use Rattle.tuple_core.specs.Encoding.{row_encoding};
+ghost use Rattle.tuple_core.specs.Values.{FitsRow};
 
 use crate::pages::{Pages, Spot};
 use std::alloc::{AllocError, Global};
@@ -66,6 +67,7 @@ impl Pieces {
     /// Puts at the end, as one byte string, some bytes and directly behind them the encoding of a row.
     pub fn push_row(&mut self, alloc: Global, front: &[u8], row: &Row) -> Result<(), AllocError>
         ensures ok { OnOk result (self.new ≡ self.old ++ (front.now ++ row_encoding row.now) ∷ []) }
+        ensures fits { FitsRow row.now }
         ensures err { OnErr result (self.new ≡ self.old) }
     {
         let spot = self.pages.put_row(alloc, front, row)?;
@@ -96,8 +98,8 @@ impl Pieces {
         ensures err { OnErr result (self.new ≡ self.old) }
     {
         let mut spots = Vec::with_capacity(alloc, indices.len())?;
-        for index in indices {
-            spots.push(self.spots[*index])?;
+        for chosen in indices {
+            spots.push(self.spots[*chosen])?;
         }
         self.spots = spots;
         Ok(())

@@ -2,7 +2,7 @@
 
 ghost use Rattle.std.specs.Prelude.{◌≡◌, ◌+◌, ◌≤◌, ◌++◌, length, vec_len, vec_capacity, IsOk, OnOk, OnErr};
 ghost use Rattle.tuple_core.specs.Encoding.{greatest_value_weight, greatest_weight, row_encoding, row_weight, value_encoding, value_weight};
-ghost use Rattle.tuple_core.specs.Values.{FitsValue, longest_text};
+ghost use Rattle.tuple_core.specs.Values.{FitsRow, FitsValue, longest_text};
 
 use crate::row::Row;
 use crate::value::Value;
@@ -30,6 +30,7 @@ fn value_weight(value: &Value) -> u64
 pub fn weight(row: &Row) -> u64
     ensures weight { result ≡ row_weight row.now }
     ensures bound { result ≤ greatest_weight }
+    ensures fits { FitsRow row.now }
 {
     let mut weight = 1u64;
     for value in row.values() {
