@@ -4,12 +4,13 @@ ghost use Rattle.std.specs.Prelude.{◌≡◌, length, option_map};
 ghost use Rattle.std.specs.List.{list_all};
 ghost use Rattle.answer_theory.specs.Rows.{over};
 ghost use Rattle.row_match.specs.Filters.{side_value, holds_in, all_hold};
+ghost use Rattle.tuple_core.specs.Encoded.{value_seen};
 
 use crate::pattern::Term;
 use crate::valuation::{RowOver, Valuation};
 use crate::vars::Vars;
 use std::marker::Model;
-use tuple_core::{Op, Row, Value, compare};
+use tuple_core::{Op, Row, ValueRef, compare};
 
 /// What a comparison is made of: a value, or a variable by its number.
 #[derive(Debug, Drop)]
@@ -34,11 +35,11 @@ impl Model for Filter {
     ghost view = { λ f. record { vars = f.vars; comparisons = f.comparisons.items } };
 }
 
-fn side<'a, V: Valuation>(term: &'a Term, valuation: &'a V) -> Option<&'a Value>
-    ensures { option_map (λ v. v.now) result ≡ side_value term.now (V.binding valuation.now) }
+fn side<'a, V: Valuation>(term: &'a Term, valuation: &'a V) -> Option<ValueRef<'a>>
+    ensures { option_map value_seen result ≡ side_value term.now (V.binding valuation.now) }
 {
     match term {
-        Term::Constant(constant) => Some(constant),
+        Term::Constant(constant) => Some(constant.seen()),
         Term::Variable(variable) => valuation.value_of(*variable),
     }
 }

@@ -2,10 +2,12 @@
 
 ghost use Rattle.std.specs.Prelude.{◌≡◌};
 ghost use Rattle.tuple_core.specs.Comparing.{compares, operator_holds};
+ghost use Rattle.tuple_core.specs.Encoded.{value_seen};
+ghost use Rattle.tuple_core.specs.Order.{value_eq};
 ghost use Rattle.tuple_core.specs.Values.{row_cmp};
 
+use crate::encoded::ValueRef;
 use crate::row::Row;
-use crate::value::Value;
 use std::cmp::Ordering;
 
 /// An operator between two values of one kind.
@@ -33,13 +35,25 @@ fn operator_holds(op: Op, order: Ordering) -> bool
 }
 
 /// Whether the operator holds between the values. Between two kinds none does, `Ne` included.
-pub fn compare(op: Op, x: &Value, y: &Value) -> bool
-    ensures { result ≡ compares op x.now y.now }
+pub fn compare(op: Op, x: ValueRef<'_>, y: ValueRef<'_>) -> bool
+    ensures { result ≡ compares op (value_seen x.entry) (value_seen y.entry) }
 {
     match (x, y) {
-        (Value::Int(x), Value::Int(y)) => operator_holds(op, x.cmp(y)),
-        (Value::Text(x), Value::Text(y)) => operator_holds(op, x.cmp(y)),
-        (Value::Bool(x), Value::Bool(y)) => operator_holds(op, x.cmp(y)),
+        (ValueRef::Int(x), ValueRef::Int(y)) => operator_holds(op, x.cmp(&y)),
+        (ValueRef::Text(x), ValueRef::Text(y)) => operator_holds(op, x.cmp(y)),
+        (ValueRef::Bool(x), ValueRef::Bool(y)) => operator_holds(op, x.cmp(&y)),
+        _ => false,
+    }
+}
+
+/// Whether two values are the same.
+pub fn same_value(x: ValueRef<'_>, y: ValueRef<'_>) -> bool
+    ensures { result ≡ value_eq (value_seen x.entry) (value_seen y.entry) }
+{
+    match (x, y) {
+        (ValueRef::Int(x), ValueRef::Int(y)) => x == y,
+        (ValueRef::Text(x), ValueRef::Text(y)) => x == y,
+        (ValueRef::Bool(x), ValueRef::Bool(y)) => x == y,
         _ => false,
     }
 }

@@ -6,11 +6,13 @@ ghost use Rattle.std.specs.Iterator.{YieldsFirstBy, item_count};
 ghost use Rattle.tuple_core.specs.Encoded.{IsEncoding, row_of, seen_and_rest, value_seen};
 ghost use Rattle.tuple_core.specs.Encoding.{row_encoding};
 ghost use Rattle.tuple_core.specs.Order.{row_eq, rows_equiv, rows_total, rows_tie, rows_po};
-ghost use Rattle.tuple_core.specs.Values.{FitsRow, row_cmp, value_cmp};
+ghost use Rattle.tuple_core.specs.Values.{FitsRow, FitsValue, row_cmp, value_cmp};
 
 use crate::decoding::{DecodeFault, decode, read_integer, read_truth, text_bytes};
 use crate::encoding::{INTEGER, TEXT, TRUTH};
 use crate::row::Row;
+use crate::value::Value;
+use med_prelude::Text;
 use std::alloc::{AllocError, Global};
 use std::cmp::Ordering;
 use std::marker::Model;
@@ -21,6 +23,23 @@ pub enum ValueRef<'a> {
     Int(i64),
     Text(&'a [u8]),
     Bool(bool),
+}
+
+impl ValueRef<'_> {
+    /// The value, with its own memory.
+    pub fn to_value(self, alloc: Global) -> Result<Value, AllocError>
+        requires { FitsValue (value_seen self) }
+        ensures { IfOk result (λ value. value ≡ value_seen self.entry) }
+    {
+        match self {
+            ValueRef::Int(number) => Ok(Value::Int(number)),
+            ValueRef::Text(bytes) => match Text::from_utf8(alloc, bytes)? {
+                Some(text) => Ok(Value::Text(text)),
+                None => unreachable!(),
+            },
+            ValueRef::Bool(truth) => Ok(Value::Bool(truth)),
+        }
+    }
 }
 
 /// A row that lies as its encoding. Contracts see its values.

@@ -34,7 +34,7 @@ mod value;
 mod writing;
 
 pub use columns::{Column, Columns, Kind};
-pub use comparing::{Op, compare, row_order};
+pub use comparing::{Op, compare, row_order, same_value};
 pub use decoding::{DecodeFault, decode};
 pub use distinct::sorted_distinct;
 pub use encoded::{EncodedRow, EncodedValues, ValueRef};

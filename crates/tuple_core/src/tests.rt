@@ -234,7 +234,7 @@ fn compares_values_of_one_kind(rt: HostRuntime) -> Result<(), Fail> {
         (Op::Lt, "1", "paris", false),
     ] {
         let (left, right) = (value_of(rt.alloc(), x)?, value_of(rt.alloc(), y)?);
-        assert_eq!(rt; compare(op, &left, &right), wanted, "{x} {y}");
+        assert_eq!(rt; compare(op, left.seen(), right.seen()), wanted, "{x} {y}");
     }
     Ok(())
 }

@@ -1,7 +1,9 @@
 //! A value of a column.
 
 ghost use Rattle.std.specs.Prelude.{◌≡◌};
+ghost use Rattle.tuple_core.specs.Encoded.{value_seen};
 
+use crate::encoded::ValueRef;
 use med_prelude::Text;
 use std::alloc::AllocError;
 
@@ -16,6 +18,17 @@ pub enum Value {
 impl Value {
     /// The most bytes of a text in a row.
     pub const LONGEST_TEXT: usize = 65_536;
+
+    /// The value, where it lies.
+    pub fn seen(&self) -> ValueRef<'_>
+        ensures { value_seen result ≡ self.now }
+    {
+        match self {
+            Value::Int(number) => ValueRef::Int(*number),
+            Value::Text(text) => ValueRef::Text(text.as_bytes()),
+            Value::Bool(truth) => ValueRef::Bool(*truth),
+        }
+    }
 }
 
 impl Clone for Value {

@@ -8,7 +8,7 @@ pub returns-in-Some : goal.returns-in-Some
 returns-in-Some c =
     let row = c.args.self.now in
     let at : position_of row.variables.now c.args.variable ≡ Some c.in-Some.position = search rules in
-    c.value_at.ensures ∙ sym (value_at c.args.variable row.variables.now row.values.now row.width ∙ ap (option_and_then (slice_get row.values.now)) at)
+    c.seen_at.ensures ∙ sym (value_at c.args.variable row.variables.now row.values.now row.width ∙ ap (option_and_then (slice_get row.values.now)) at)
 
 pub returns-in-None : goal.returns-in-None
 returns-in-None c =
