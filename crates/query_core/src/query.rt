@@ -2,7 +2,7 @@
 
 use med_prelude::Listed;
 use row_match::{Comparison, Term};
-use tuple_core::Rows;
+use row_pages::Rows;
 
 /// A part of a query's body that asks for the rows of a relation.
 #[derive(Debug, Drop)]

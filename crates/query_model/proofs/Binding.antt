@@ -2,7 +2,7 @@
 use Rattle.std.proofs.Common.{◌≡◌, ℕ, ◌==◌, ◌≤◌, Bool, true, false, not, ◌&&◌, ◌||◌, List, [], ◌∷◌, ◌++◌, length, take, ◌⊎◌, ⊎_elim, refl, sym, ap, ap₂, subst, ◌∙◌, append_assoc, append-nil, arith, suc, ◌+◌, ◌-◌, ◌<◌, min, drop, get_or, inl, inr}
 use Rattle.std.proofs.lemmas.Bool.{and_parts}
 use Rattle.std.proofs.Math.Seq.{drop-cons, take-length}
-use Rattle.std.proofs.lemmas.List.{take-append-le, length-take, length-drop}
+use Rattle.std.proofs.lemmas.List.{drop_all, take-append-le, length-take}
 use Rattle.answer_theory.specs.Bindings.{Binding, meet, consistent}
 use Rattle.answer_theory.proofs.Bindings.{consistent_append}
 use Rattle.answer_theory.proofs.Bools.{and_true}
@@ -10,6 +10,7 @@ use Rattle.row_match.specs.Patterns.{fits, entries_of, values_join}
 use Rattle.row_match.specs.declared.pattern.Term.{Term}
 use Rattle.row_match.specs.declared.pattern.Term.TheVariants as term
 use Rattle.tuple_core.specs.declared.value.Value.{Value}
+use Rattle.tuple_core.specs.Encoded.{value_seen}
 use Rattle.query_model.specs.Walks.{entries_agree, agrees_with, binding_of}
 use Rattle.query_model.specs.declared.entries.Entry.{Entry}
 
@@ -17,7 +18,7 @@ use Rattle.query_model.specs.declared.entries.Entry.{Entry}
 
 meets_one : (entries : List Entry) (v : ℕ) (x : Value) → meet values_join (binding_of entries) ((v, x) ∷ []) ≡ entries_agree entries v x
 meets_one [] v x = refl
-meets_one (p ∷ entries) v x = ap₂ (λ s t. s && t) (and_true (not (p.variable == v) || values_join p.value.now x)) (meets_one entries v x)
+meets_one (p ∷ entries) v x = ap₂ (λ s t. s && t) (and_true (not (p.variable == v) || values_join (value_seen p.value) x)) (meets_one entries v x)
 
 pub agrees_one : (entries : List Entry) (v : ℕ) (x : Value) → consistent values_join (binding_of entries) ≡ true
     → entries_agree entries v x ≡ agrees_with (binding_of entries) (term.Variable v ∷ []) (x ∷ [])
@@ -97,27 +98,28 @@ bound_all old terms row b ts xs h left =
     let all : b ≡ b ++ entries_of ts xs = sym (ap (λ c. b ++ c) none.1 ∙ append-nil b) in
     (sym h.rest ∙ ap₂ (λ f c. f && consistent values_join c) none.0 (sym all) ∙ h.agree, all ∙ h.all)
 
--- ---- the same by the number of columns that are done
+-- ---- the same by the number of terms that are done
 
-drop_at : {X : Type 0} (xs : List X) (k : ℕ) (x : X) → k < length xs → ((d : X) → x ≡ get_or xs k d) → drop k xs ≡ x ∷ drop (k + 1) xs
-drop_at xs k x l e = drop-cons xs k x l ∙ ap₂ (λ y n. y ∷ drop n xs) (sym (e x)) (let s : suc k ≡ k + 1 = omega arith in s)
+module _ (old : Binding Value) (terms : List Term) (row : List Value) (b : Binding Value) (k : ℕ) (t : Term) (x : Value) (left after : List Value)
+    (h : IsBoundSoFar old terms row b (drop k terms) left) (inside : k < length terms) (is : t ≡ get_or terms k t) (first : left ≡ x ∷ after) where
+  terms_left : drop k terms ≡ t ∷ drop (k + 1) terms
+  terms_left = drop-cons terms k t inside ∙ ap₂ (λ y n. y ∷ drop n terms) (sym is) (let s : suc k ≡ k + 1 = omega arith in s)
 
-module _ (old : Binding Value) (terms : List Term) (row : List Value) (b : Binding Value) (k : ℕ) (t : Term) (x : Value)
-    (h : IsBoundSoFar old terms row b (drop k terms) (drop k row)) (inside : (k < length terms) × (k < length row) × ((d : Term) → t ≡ get_or terms k d) × ((d : Value) → x ≡ get_or row k d)) where
-  here : IsBoundSoFar old terms row b (t ∷ drop (k + 1) terms) (x ∷ drop (k + 1) row)
-  here = subst (λ xs. IsBoundSoFar old terms row b (t ∷ drop (k + 1) terms) xs) (drop_at row k x inside.1 inside.3) (subst (λ ts. IsBoundSoFar old terms row b ts (drop k row)) (drop_at terms k t inside.0 inside.2) h)
+  here : IsBoundSoFar old terms row b (t ∷ drop (k + 1) terms) (x ∷ after)
+  here = subst (λ xs. IsBoundSoFar old terms row b (t ∷ drop (k + 1) terms) xs) first (subst (λ ts. IsBoundSoFar old terms row b ts left) terms_left h)
 
-  pub more_at : (new : Binding Value) → agrees_with b (t ∷ []) (x ∷ []) ≡ true → new ≡ b ++ entries_of (t ∷ []) (x ∷ []) → IsBoundSoFar old terms row new (drop (k + 1) terms) (drop (k + 1) row)
-  more_at new e n = rw n (bound_more old terms row b t (drop (k + 1) terms) x (drop (k + 1) row) here e)
+  pub more_at : (new : Binding Value) → agrees_with b (t ∷ []) (x ∷ []) ≡ true → new ≡ b ++ entries_of (t ∷ []) (x ∷ []) → IsBoundSoFar old terms row new (drop (k + 1) terms) after
+  more_at new e n = rw n (bound_more old terms row b t (drop (k + 1) terms) x after here e)
 
   pub stops_at : agrees_with b (t ∷ []) (x ∷ []) ≡ false → agrees_with old terms row ≡ false
-  stops_at e = bound_stops old terms row b t (drop (k + 1) terms) x (drop (k + 1) row) here e
+  stops_at e = bound_stops old terms row b t (drop (k + 1) terms) x after here e
 
-pub ends_at : (old : Binding Value) (terms : List Term) (row : List Value) (b : Binding Value) (k : ℕ) → IsBoundSoFar old terms row b (drop k terms) (drop k row)
-    → k ≡ min (length terms) (length row) → (agrees_with old terms row ≡ true) × (b ≡ old ++ entries_of terms row)
-ends_at old terms row b k h e = bound_all old terms row b (drop k terms) (drop k row) h (left (drop k terms) (drop k row) (length-drop k terms) (length-drop k row))
-  where
-    left : (ts : List Term) (xs : List Value) → length ts ≡ length terms - k → length xs ≡ length row - k → (ts ≡ []) ⊎ (xs ≡ [])
-    left [] xs l m = inl refl
-    left (t ∷ ts) [] l m = inr refl
-    left (t ∷ ts) (x ∷ xs) l m = absurd (let i : suc (length ts) ≡ length terms - k = l in let j : suc (length xs) ≡ length row - k = m in omega (arith, e, i, j))
+-- no term is left
+pub terms_end : (old : Binding Value) (terms : List Term) (row : List Value) (b : Binding Value) (k : ℕ) (left : List Value) → IsBoundSoFar old terms row b (drop k terms) left
+    → length terms ≤ k → (agrees_with old terms row ≡ true) × (b ≡ old ++ entries_of terms row)
+terms_end old terms row b k left h past = bound_all old terms row b (drop k terms) left h (inl (drop_all k terms past))
+
+-- no value is left
+pub values_end : (old : Binding Value) (terms : List Term) (row : List Value) (b : Binding Value) (k : ℕ) (left : List Value) → IsBoundSoFar old terms row b (drop k terms) left
+    → left ≡ [] → (agrees_with old terms row ≡ true) × (b ≡ old ++ entries_of terms row)
+values_end old terms row b k left h none = bound_all old terms row b (drop k terms) left h (inr none)

@@ -17,6 +17,7 @@ use Rattle.row_match.specs.Filters.{all_hold, comparison_variables}
 use Rattle.row_match.specs.Patterns.{fits, entries_of, values_join}
 use Rattle.row_match.specs.declared.pattern.Term.{Term}
 use Rattle.row_match.specs.declared.pattern.Term.TheVariants as term
+use Rattle.tuple_core.specs.Encoded.{value_seen}
 use Rattle.tuple_core.specs.Values.{FitsValue, FitsRow}
 use Rattle.tuple_core.specs.declared.value.Value.{Value}
 use Rattle.query_core.specs.Answers.{Item, item_fits, item_entries, items_of, items, head_row, choices, binding_at, heads, answer_of}
@@ -137,7 +138,7 @@ cut_back old now after before e same kept =
     sym (take-map entry before after) ∙ (ap (λ n. take n (binding_of after)) long ∙ (kept ∙ same))
   where
     entry : Entry → ℕ × Value
-    entry p = (p.variable, p.value.now)
+    entry p = (p.variable, value_seen p.value)
 
 -- ---- the whole walk
 

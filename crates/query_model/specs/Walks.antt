@@ -3,6 +3,7 @@ use Rattle.std.specs.Prelude.{◌≡◌, ℕ, ◌==◌, Bool, true, not, ◌&&�
 use Rattle.std.specs.List.{list_all, AllByRecursion}
 use Rattle.answer_theory.specs.Bindings.{Binding, consistent}
 use Rattle.answer_theory.specs.Choices.{solutions_from}
+use Rattle.tuple_core.specs.Encoded.{value_seen}
 use Rattle.tuple_core.specs.Values.{FitsValue}
 use Rattle.tuple_core.specs.declared.value.Value.{Value}
 use Rattle.row_match.specs.Filters.{all_hold}
@@ -14,11 +15,11 @@ use Rattle.query_model.specs.declared.entries.Entry.{Entry}
 
 -- what the entries bind
 abbrev pub binding_of : List Entry → Binding Value
-binding_of entries = map (λ p. (p.variable, p.value.now)) entries
+binding_of entries = map (λ p. (p.variable, value_seen p.value)) entries
 
 -- the entry is another variable's, or its value joins
 abbrev pub entry_agrees : Entry → ℕ → Value → Bool
-entry_agrees p v x = not (p.variable == v) || values_join p.value.now x
+entry_agrees p v x = not (p.variable == v) || values_join (value_seen p.value) x
 
 abbrev pub entries_agree : List Entry → ℕ → Value → Bool
 entries_agree entries v x = list_all (λ p. entry_agrees p v x) entries

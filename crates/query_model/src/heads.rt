@@ -11,6 +11,7 @@ ghost use Rattle.query_model.specs.Walks.{binding_of, AreBound};
 use crate::entries::{Entry, FirstEntries};
 use query_core::Query;
 use row_match::{Valuation, all_hold};
+use row_pages::Rows;
 use std::alloc::{AllocError, Global};
 use tuple_core::Row;
 
@@ -22,7 +23,7 @@ fn head_row(alloc: Global, head: &[u32], entries: &FirstEntries) -> Result<Row, 
     let mut values = Vec::with_capacity(alloc, head.len())?;
     for variable in head {
         if let Some(value) = entries.value_of(*variable) {
-            values.push(value.clone()?)?;
+            values.push(value.to_value(alloc)?)?;
         }
     }
     Ok(Row::new(values))
@@ -33,15 +34,15 @@ pub(crate) fn keep_head(
     alloc: Global,
     query: &Query,
     entries: &[Entry],
-    found: &mut Vec<Row>,
+    found: &mut Rows,
 ) -> Result<(), AllocError>
     requires head { length query.now.head ≤ Row.MOST_VALUES }
     requires bound { AreBound (binding_of entries.now) }
-    ensures { OnOk result (found.new.items ≡ found.old.items ++ only (all_hold query.now.comparisons (binding_of entries.now)) (head_row query.now.head (binding_of entries.now))) }
+    ensures { OnOk result (found.new ≡ found.old ++ only (all_hold query.now.comparisons (binding_of entries.now)) (head_row query.now.head (binding_of entries.now))) }
 {
     let values = FirstEntries { entries };
     if all_hold(query.comparisons.as_slice(), &values) {
-        found.push(head_row(alloc, query.head.as_slice(), &values)?)?;
+        found.push(alloc, &head_row(alloc, query.head.as_slice(), &values)?)?;
     }
     Ok(())
 }

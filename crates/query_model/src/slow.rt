@@ -2,14 +2,14 @@
 
 ghost use Rattle.std.specs.Prelude.{◌≡◌, ◌≤◌, ◌++◌, length, IfOk, OnOk};
 ghost use Rattle.query_core.specs.Answers.{answer_of, items};
-ghost use Rattle.tuple_core.specs.Distinct.{AreSortedDistinct};
 ghost use Rattle.query_model.specs.Walks.{binding_of, heads_from, AreBound};
 
 use crate::entries::{Entry, bind_row};
 use crate::heads::keep_head;
 use query_core::{Arrivals, Atom, Query};
+use row_pages::{Rows, sorted_distinct};
 use std::alloc::{AllocError, Global};
-use tuple_core::{Row, Rows, sorted_distinct};
+use tuple_core::Row;
 
 // Takes each row of the first atom that agrees with the entries, and goes on with the other atoms.
 fn walk<'a>(
@@ -18,11 +18,11 @@ fn walk<'a>(
     atoms: &[Atom],
     arrivals: &'a [Rows],
     entries: &mut Vec<Entry<'a>>,
-    found: &mut Vec<Row>,
+    found: &mut Rows,
 ) -> Result<(), AllocError>
     requires head { length query.now.head ≤ Row.MOST_VALUES }
     requires bound { AreBound (binding_of entries.old.items) }
-    ensures found { OnOk result (found.new.items ≡ found.old.items ++ heads_from query.now (binding_of entries.old.items) (items atoms.now arrivals.now)) }
+    ensures found { OnOk result (found.new ≡ found.old ++ heads_from query.now (binding_of entries.old.items) (items atoms.now arrivals.now)) }
     ensures entries { OnOk result (binding_of entries.new.items ≡ binding_of entries.old.items) }
 {
     let Some((atom, more_atoms)) = atoms.split_first() else {
@@ -32,7 +32,7 @@ fn walk<'a>(
         return Ok(());
     };
     let before = entries.len();
-    for row in rows.as_slice() {
+    for row in rows.iter() {
         if bind_row(atom.terms.as_slice(), row.values(), entries)? {
             walk(alloc, query, more_atoms, more_arrivals, entries, found)?;
         }
@@ -41,19 +41,13 @@ fn walk<'a>(
     Ok(())
 }
 
-fn distinct_rows(found: Vec<Row>) -> Result<Rows, AllocError>
-    ensures { IfOk result (λ rows. AreSortedDistinct found.items rows) }
-{
-    Ok(Rows::from_vec(sorted_distinct(found)?))
-}
-
 /// The distinct rows of the query's answer, in their order. It takes a row of each atom in turn, in each way.
 pub fn slow_answer(alloc: Global, query: &Query, arrivals: &Arrivals) -> Result<Rows, AllocError>
     requires head { length query.now.head ≤ Row.MOST_VALUES }
     ensures { IfOk result (λ rows. rows ≡ answer_of query.now arrivals.now) }
 {
     let mut entries = Vec::new(alloc);
-    let mut found = Vec::new(alloc);
+    let mut found = Rows::new(alloc);
     walk(
         alloc,
         query,
@@ -62,5 +56,5 @@ pub fn slow_answer(alloc: Global, query: &Query, arrivals: &Arrivals) -> Result<
         &mut entries,
         &mut found,
     )?;
-    distinct_rows(found)
+    sorted_distinct(alloc, found)
 }

@@ -1,8 +1,9 @@
 -- Rows that lie as their encodings.
-use Rattle.std.proofs.Common.{◌≡◌, ◌<◌, ◌++◌, ℕ, suc, List, [], ◌∷◌, length, get_or, map, refl, sym, ap, ap₂, subst, ◌∙◌, arith, append-nil, Result, Ok, Err, OnOk, OnErr}
+use Rattle.std.proofs.Common.{◌≡◌, ◌<◌, ◌++◌, ℕ, suc, List, [], ◌∷◌, length, get_or, map, refl, sym, ap, ap₂, subst, ◌∙◌, arith, append-nil, Result, Ok, Err, OnOk, OnErr, Some, slice_get, drop, drop-cons, add-one, ◌+◌}
 use Rattle.std.specs.List.{All}
 use Rattle.std.proofs.lemmas.List.{get_or-map, map-append, length-map}
 use Rattle.std.proofs.lemmas.List.Elements.{All-push, All-map}
+use Rattle.std.proofs.lemmas.Option.{get_or_from_slice_get}
 use Rattle.med_prelude.specs.Texts.{Bytes}
 use Rattle.tuple_core.proofs.Back.{row_back}
 use Rattle.tuple_core.specs.Decoding.{row_and_rest}
@@ -51,3 +52,8 @@ rows_selected old new rows indices (Ok x) is inside ok = ap (map row_of) ok ∙ 
         let within : index < length old = omega (arith, inside 0 0 (omega arith), length-map old row_of, ap length is) in
         ap₂ (λ row more. row ∷ more) (sym (get_or-map row_of old index [] [] within) ∙ ap (λ xs. get_or xs index []) is) (each indices (λ k d l. inside (suc k) d (omega arith)))
 rows_selected old new rows indices (Err why) is inside ok = tt
+
+-- the row at the index is the first of those that are left
+pub first_left : (rows : RowList) (i : ℕ) (row : RowValues) → Some row ≡ slice_get rows i → i < length rows → drop i rows ≡ row ∷ drop (i + 1) rows
+first_left rows i row is inside =
+    drop-cons rows i row inside ∙ ap₂ (λ r n. r ∷ drop n rows) (get_or_from_slice_get rows i row row (sym is)) (sym (add-one i))

@@ -1,7 +1,7 @@
 //! Rows that stay for long: one behind the other in pages, each as its encoding.
 //!
-//! - [`Rows`] is a list of rows. [`Rows::push`] puts a row's encoding at the end, [`Rows::get`] lends a row in place, and
-//!   [`Rows::row`] makes a copy with its own memory.
+//! - [`Rows`] is a list of rows. [`Rows::push`] puts a row's encoding at the end, [`Rows::get`] and
+//!   [`Rows::iter`] lend rows where they lie.
 //! - [`sorted_distinct`] puts rows into their order, each once, without moving one.
 //! - [`Pieces`] is the list of byte strings under it, for what keeps more than rows; [`Pieces::take`] hands all of them on
 //!   without taking memory. [`Pages`] with its [`Spot`]s is what lies under both: bytes that never move.
@@ -18,4 +18,4 @@ mod rows;
 
 pub use pages::{Pages, Spot};
 pub use pieces::Pieces;
-pub use rows::Rows;
+pub use rows::{Rows, RowsLeft};

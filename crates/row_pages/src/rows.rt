@@ -1,6 +1,7 @@
 //! A list of rows that lie as their encodings.
 
 ghost use Rattle.std.specs.Prelude.{◌≡◌, ◌==◌, ◌<◌, ◌++◌, [], ◌∷◌, length, map, slice_get, slice_index_or, All, IfOk, OnOk, OnErr};
+ghost use Rattle.std.specs.Iterator.{YieldsFirstBy, item_count};
 ghost use Rattle.tuple_core.specs.Values.{RowValues};
 
 use crate::pieces::Pieces;
@@ -66,6 +67,16 @@ impl Rows {
         Some(EncodedRow::of(bytes))
     }
 
+    /// The rows in their order, each where it lies.
+    pub fn iter(&self) -> RowsLeft<'_>
+        ensures { result ≡ self.now }
+    {
+        RowsLeft {
+            rows: self,
+            next: 0,
+        }
+    }
+
     /// Hands all rows on, and leaves none. It takes no memory.
     pub fn take(&mut self, alloc: Global) -> Rows
         ensures taken { result ≡ self.old }
@@ -81,5 +92,45 @@ impl Rows {
         ensures err { OnErr result (self.new ≡ self.old) }
     {
         self.pieces.select(alloc, indices)
+    }
+}
+
+/// The rows that are still to come. Contracts see their list.
+#[derive(Debug, Drop)]
+pub struct RowsLeft<'a> {
+    rows: &'a Rows,
+    next: usize,
+}
+
+impl<'a> Model for RowsLeft<'a> {
+    ghost use Rattle.std.specs.Prelude.{◌≤◌, drop, length};
+    ghost use Rattle.tuple_core.specs.Values.{RowList};
+
+    ghost Value = { RowList };
+
+    ghost view = { λ l. drop l.next l.rows.now };
+
+    ghost invariant = { λ l. l.next ≤ length l.rows.now };
+}
+
+impl<'a> Iterator for RowsLeft<'a> {
+    type Item = EncodedRow<'a>;
+
+    ghost next_gives = { YieldsFirstBy (λ row. row) (λ left. left) };
+
+    ghost remaining = { item_count (λ left. left) };
+
+    fn next(&mut self) -> Option<EncodedRow<'a>> {
+        let rows = self.rows;
+        if self.next == rows.len() {
+            return None;
+        }
+        match rows.get(self.next) {
+            Some(row) => {
+                self.next += 1;
+                Some(row)
+            }
+            None => unreachable!(),
+        }
     }
 }
