@@ -15,7 +15,9 @@
 mod pages;
 mod pieces;
 mod rows;
+mod sorting;
 
 pub use pages::{Pages, Spot};
 pub use pieces::Pieces;
 pub use rows::{Rows, RowsLeft};
+pub use sorting::sorted_distinct;

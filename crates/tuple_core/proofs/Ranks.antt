@@ -1,5 +1,5 @@
 -- Ranks agree with the order of rows.
-use Rattle.std.proofs.Common.{add-one, drop-cons, ◌≡◌, ◌≢◌, ℕ, zero, suc, ◌+◌, ◌-◌, ◌^◌, ◌<◌, ◌≤◌, Bool, true, false, List, [], ◌∷◌, length, drop, get_or, ℤ, negsuc, ◌-ℤ◌, ◌<ℤ◌, unsigned_abs, FitsSigned, refl, sym, ap, subst, ◌∙◌, arith}
+use Rattle.std.proofs.Common.{add-one, zero-add, drop-cons, ◌≡◌, ℕ, zero, suc, ◌+◌, ◌-◌, ◌^◌, ◌<◌, ◌≤◌, Bool, true, false, List, [], ◌∷◌, ◌++◌, length, drop, get_or, ℤ, negsuc, ◌-ℤ◌, ◌<ℤ◌, unsigned_abs, FitsSigned, refl, sym, ap, ap₂, subst, ◌∙◌, arith}
 use Rattle.std.specs.Cmp.{ranks, int_ranks}
 use Rattle.std.specs.Cmp.Lexicographic.{slice_cmp}
 use Rattle.std.specs.Int.{w64, from_bool}
@@ -10,14 +10,15 @@ use Rattle.std.specs.declared.cmp.Ordering.TheVariants.{Less, Equal, Greater}
 use Rattle.std.proofs.Math.Facts.{clash}
 use Rattle.std.proofs.lemmas.Bool.{false≢true}
 use Rattle.std.proofs.lemmas.Int.{ints}
-use Rattle.std.proofs.lemmas.List.{drop_all}
+use Rattle.std.proofs.lemmas.Cmp.{nat_cmp_total, tied_itself}
+use Rattle.std.proofs.lemmas.List.{drop_all, drop_at}
 use Rattle.std.proofs.lemmas.Nat.{pow_pos}
-use Rattle.tuple_core.specs.Order.{row_eq, values_same, values_tie, rows_decided, rows_tie, rows_total}
-use Rattle.tuple_core.specs.Ranks.{put_digit, above_least, text_rank, value_rank, row_rank, FitsRoom, IsRanked}
+use Rattle.tuple_core.specs.Order.{values_same, values_tie, rows_decided, rows_tie, rows_total}
+use Rattle.tuple_core.specs.Ranks.{FirstTextBegins, FitsRank, FitsRoom, above_least, Puts, cut_row, cut_value, put_digit, row_rank, text_rank, value_rank}
 use Rattle.tuple_core.specs.Values.{FitsValue, FitsRow, value_cmp, row_cmp}
 use Rattle.tuple_core.specs.declared.value.Value.{Value}
 use Rattle.tuple_core.specs.declared.value.Value.TheVariants as value
-use Rattle.tuple_core.proofs.Digits.{digit_below, digit_fits, digit_then}
+use Rattle.tuple_core.proofs.Digits.{digit_below, digit_fits, digit_then, no_room}
 use Rattle.tuple_core.proofs.TextBytes.{bytes_below}
 
 no_greater : {X : Type 0} → Greater ≡ Less → X
@@ -69,13 +70,13 @@ pub bit_fits : (b : Bool) → from_bool b < 2 ^ 1
 bit_fits true = omega arith
 bit_fits false = omega arith
 
-value_fits : (v : Value) (rest : ℕ → ℕ) → FitsValue v → FitsRoom rest → FitsRoom (value_rank v rest)
+pub value_fits : (v : Value) (rest : ℕ → ℕ) → FitsRank v → FitsRoom rest → FitsRoom (value_rank v rest)
 unfolding value_rank
 value_fits (value.Int z) rest h f = digit_fits 2 1 _ (omega arith) (digit_fits 64 (above_least z) rest (above_fits z h) f)
-value_fits (value.Text bytes) rest h f = digit_fits 2 2 _ (omega arith) (text_fits bytes rest (bytes_below bytes h.0) f)
+value_fits (value.Text bytes) rest h f = digit_fits 2 2 _ (omega arith) (text_fits bytes rest h.small f)
 value_fits (value.Bool b) rest h f = digit_fits 2 3 _ (omega arith) (digit_fits 1 (from_bool b) rest (bit_fits b) f)
 
-value_below : (v w : Value) (f g : ℕ → ℕ) → FitsValue v → FitsValue w → FitsRoom f → value_cmp v w ≡ Less
+value_below : (v w : Value) (f g : ℕ → ℕ) → FitsRank v → FitsRank w → FitsRoom f → value_cmp v w ≡ Less
     → (room : ℕ) → value_rank v f room ≤ value_rank w g room
 unfolding value_rank
 value_below (value.Int x) (value.Int y) f g h k fits e =
@@ -84,8 +85,8 @@ value_below (value.Int x) (value.Int y) f g h k fits e =
 value_below (value.Int x) (value.Text y) f g h k fits e = digit_below 2 1 2 _ _ (omega arith) (digit_fits 64 (above_least x) f (above_fits x h) fits)
 value_below (value.Int x) (value.Bool y) f g h k fits e = digit_below 2 1 3 _ _ (omega arith) (digit_fits 64 (above_least x) f (above_fits x h) fits)
 value_below (value.Text x) (value.Int y) f g h k fits e = no_greater e
-value_below (value.Text x) (value.Text y) f g h k fits e = digit_then 2 2 _ _ (text_below x y f g (bytes_below x h.0) fits e)
-value_below (value.Text x) (value.Bool y) f g h k fits e = digit_below 2 2 3 _ _ (omega arith) (text_fits x f (bytes_below x h.0) fits)
+value_below (value.Text x) (value.Text y) f g h k fits e = digit_then 2 2 _ _ (text_below x y f g h.small fits e)
+value_below (value.Text x) (value.Bool y) f g h k fits e = digit_below 2 2 3 _ _ (omega arith) (text_fits x f h.small fits)
 value_below (value.Bool x) (value.Int y) f g h k fits e = no_greater e
 value_below (value.Bool x) (value.Text y) f g h k fits e = no_greater e
 value_below (value.Bool false) (value.Bool false) f g h k fits e = no_equal e
@@ -104,12 +105,12 @@ values_tied v w e = values_same v w (values_tie v w ∙ ap is_eq e)
 
 -- ---- ranks of rows
 
-row_fits : (row : List Value) → AllByRecursion FitsValue row → FitsRoom (row_rank row)
+pub row_fits : (row : List Value) → AllByRecursion FitsRank row → FitsRoom (row_rank row)
 unfolding row_rank
 row_fits [] h room = pow_pos room
 row_fits (v ∷ row) h room = value_fits v (row_rank row) h.0 (row_fits row h.1) room
 
-values_below : (r s : List Value) → AllByRecursion FitsValue r → AllByRecursion FitsValue s → row_cmp r s ≡ Less → (room : ℕ) → row_rank r room ≤ row_rank s room
+values_below : (r s : List Value) → AllByRecursion FitsRank r → AllByRecursion FitsRank s → row_cmp r s ≡ Less → (room : ℕ) → row_rank r room ≤ row_rank s room
 unfolding row_rank
 values_below [] s h k e room = omega arith
 values_below (v ∷ r) [] h k e room = no_greater e
@@ -121,32 +122,86 @@ values_below (v ∷ r) (w ∷ s) h k e room = go (values_below r s h.1 k.1) (val
     go ih Greater t i = no_greater i
 
 -- where two ranks differ, the rows stand as they do
-pub ranks_decide : (p q : ℕ) (r s : List Value) → IsRanked p r → IsRanked q s → p < q → row_cmp r s ≡ Less
-ranks_decide p q r s h k l = go (row_cmp r s) refl
+pub ranks_decide : (r s : List Value) → AllByRecursion FitsRank r → AllByRecursion FitsRank s → row_rank r 128 < row_rank s 128 → row_cmp r s ≡ Less
+ranks_decide r s h k l = go (row_cmp r s) refl
   where
     go : (o : Ordering) → row_cmp r s ≡ o → row_cmp r s ≡ Less
     go Less e = e
     go Equal e =
         let same : r ≡ s = (rows_decided r s).0 (rows_tie r s ∙ ap is_eq e) in
-        let tied : p ≡ q = h.is ∙ ap (λ row. row_rank row 128) same ∙ sym k.is in
+        let tied : row_rank r 128 ≡ row_rank s 128 = ap (λ row. row_rank row 128) same in
         absurd (clash l (omega (arith, tied)))
     go Greater e =
-        let below = values_below s r k.fits.each h.fits.each (rows_total.antisymm s r ∙ ap ordering_reverse e) 128 in
-        absurd (clash l (omega (arith, below, h.is, k.is)))
+        let below = values_below s r k h (rows_total.antisymm s r ∙ ap ordering_reverse e) 128 in
+        absurd (clash l (omega (arith, below)))
 
-pub ranks_decide_back : (p q : ℕ) (r s : List Value) → IsRanked p r → IsRanked q s → q < p → row_cmp r s ≡ Greater
-ranks_decide_back p q r s h k l = rows_total.antisymm r s ∙ ap ordering_reverse (ranks_decide q p s r k h l)
-
--- and where they differ, so do the rows
-pub ranks_differ : (p q : ℕ) (r s : List Value) → IsRanked p r → IsRanked q s → (p ≢ q) → row_eq r s ≡ false
-ranks_differ p q r s h k n = go (row_eq r s) refl
+-- where ranks come first, rows stand as they do without them
+pub ranks_first : (r s : List Value) → AllByRecursion FitsRank r → AllByRecursion FitsRank s → ordering_then (nat_cmp (row_rank r 128) (row_rank s 128)) (row_cmp r s) ≡ row_cmp r s
+ranks_first r s h k = go (nat_cmp (row_rank r 128) (row_rank s 128)) (ranks (row_rank r 128) (row_rank s 128))
   where
-    go : (t : Bool) → row_eq r s ≡ t → row_eq r s ≡ false
-    go false e = e
-    go true e =
-        let same : r ≡ s = (rows_decided r s).0 e in
-        let tied : p ≡ q = h.is ∙ ap (λ row. row_rank row 128) same ∙ sym k.is in
-        absurd (n tied)
+    go : (o : Ordering) → MatchOrdering o (row_rank r 128 < row_rank s 128) (row_rank r 128 ≡ row_rank s 128) (row_rank s 128 < row_rank r 128) → ordering_then o (row_cmp r s) ≡ row_cmp r s
+    go Less l = sym (ranks_decide r s h k l)
+    go Equal l = refl
+    go Greater l = sym (rows_total.antisymm r s ∙ ap ordering_reverse (ranks_decide s r k h l))
+
+-- ---- rows that are cut
+
+pub drop_below : (bytes : List ℕ) (i : ℕ) → ((k : ℕ) → get_or bytes k 0 < 256) → (k : ℕ) → get_or (drop i bytes) k 0 < 256
+drop_below bytes zero h k = h k
+drop_below [] (suc i) h k = h k
+drop_below (b ∷ bytes) (suc i) h k = drop_below bytes i (λ j. h (suc j)) k
+
+value_ranks : (v : Value) → FitsValue v → FitsRank v
+value_ranks (value.Int z) h = h
+value_ranks (value.Text bytes) h = record { small = bytes_below bytes h.0 }
+value_ranks (value.Bool b) h = tt
+
+pub values_rank : (row : List Value) → AllByRecursion FitsValue row → AllByRecursion FitsRank row
+values_rank [] h = tt
+values_rank (v ∷ row) h = (value_ranks v h.0, values_rank row h.1)
+
+pub cut_ranks : (skip : ℕ) (v : Value) → FitsValue v → FitsRank (cut_value skip v)
+cut_ranks skip (value.Int z) h = h
+cut_ranks skip (value.Text bytes) h = record { small = drop_below bytes skip (bytes_below bytes h.0) }
+cut_ranks skip (value.Bool b) h = tt
+
+pub cut_row_ranks : (skip : ℕ) (row : List Value) → AllByRecursion FitsValue row → AllByRecursion FitsRank (cut_row skip row)
+cut_row_ranks skip [] h = tt
+cut_row_ranks skip (v ∷ row) h = (cut_ranks skip v h.0, values_rank row h.1)
+
+front_cancels : (front x y : List ℕ) → slice_cmp nat_cmp (front ++ x) (front ++ y) ≡ slice_cmp nat_cmp x y
+front_cancels [] x y = refl
+front_cancels (b ∷ front) x y = ap (λ o. ordering_then o (slice_cmp nat_cmp (front ++ x) (front ++ y))) (tied_itself nat_cmp_total b) ∙ front_cancels front x y
+
+cut_values : (front : List ℕ) (v w : Value) → FirstTextBegins front (v ∷ []) → FirstTextBegins front (w ∷ []) → value_cmp (cut_value (length front) v) (cut_value (length front) w) ≡ value_cmp v w
+cut_values front (value.Int x) (value.Int y) h k = refl
+cut_values front (value.Int x) (value.Text y) h k = refl
+cut_values front (value.Int x) (value.Bool y) h k = refl
+cut_values front (value.Text x) (value.Int y) h k = refl
+cut_values front (value.Text x) (value.Text y) h k =
+    ap₂ (λ xs ys. slice_cmp nat_cmp (drop (length front) xs) (drop (length front) ys)) h.1 k.1
+    ∙ ap₂ (λ xs ys. slice_cmp nat_cmp xs ys) (drop_at front h.0 (length front) refl) (drop_at front k.0 (length front) refl)
+    ∙ sym (front_cancels front h.0 k.0)
+    ∙ ap₂ (λ xs ys. slice_cmp nat_cmp xs ys) (sym h.1) (sym k.1)
+cut_values front (value.Text x) (value.Bool y) h k = refl
+cut_values front (value.Bool x) (value.Int y) h k = refl
+cut_values front (value.Bool x) (value.Text y) h k = refl
+cut_values front (value.Bool x) (value.Bool y) h k = refl
+
+-- rows whose first texts share some bytes stand as they do without them
+pub cut_alike : (front : List ℕ) (r s : List Value) → FirstTextBegins front r → FirstTextBegins front s → row_cmp (cut_row (length front) r) (cut_row (length front) s) ≡ row_cmp r s
+cut_alike front [] [] h k = refl
+cut_alike front [] (w ∷ s) h k = refl
+cut_alike front (v ∷ r) [] h k = refl
+cut_alike front (v ∷ r) (w ∷ s) h k = ap (λ o. ordering_then o (row_cmp r s)) (cut_values front v w h k)
+
+-- and so the ranks of the rows without these bytes may come first
+pub cut_ranks_first : (skip : ℕ) (r s : List Value) → FitsRow r → FitsRow s → row_cmp (cut_row skip r) (cut_row skip s) ≡ row_cmp r s
+    → ordering_then (nat_cmp (row_rank (cut_row skip r) 128) (row_rank (cut_row skip s) 128)) (row_cmp r s) ≡ row_cmp r s
+cut_ranks_first skip r s h k alike =
+    ap (λ o. ordering_then (nat_cmp (row_rank (cut_row skip r) 128) (row_rank (cut_row skip s) 128)) o) (sym alike)
+    ∙ ranks_first (cut_row skip r) (cut_row skip s) (cut_row_ranks skip r h.each) (cut_row_ranks skip s k.each)
+    ∙ alike
 
 -- ---- what is left while a rank is written
 
@@ -159,23 +214,29 @@ pub text_end : (bytes : List ℕ) (i : ℕ) (rest : ℕ → ℕ) (room : ℕ) �
 unfolding text_rank
 text_end bytes i rest room h = rw (drop_all i bytes h) refl
 
-pub drop_below : (bytes : List ℕ) (i : ℕ) → ((k : ℕ) → get_or bytes k 0 < 256) → (k : ℕ) → get_or (drop i bytes) k 0 < 256
-drop_below bytes zero h k = h k
-drop_below [] (suc i) h k = h k
-drop_below (b ∷ bytes) (suc i) h k = drop_below bytes i (λ j. h (suc j)) k
-
-drop_fits : (row : List Value) (i : ℕ) → AllByRecursion FitsValue row → AllByRecursion FitsValue (drop i row)
-drop_fits row zero h = h
-drop_fits [] (suc i) h = h
-drop_fits (v ∷ row) (suc i) h = drop_fits row i h.1
-
-pub row_left_fits : (row : List Value) (i : ℕ) → FitsRow row → FitsRoom (row_rank (drop i row))
-row_left_fits row i h = row_fits (drop i row) (drop_fits row i h.each)
-
-pub row_turn : (row : List Value) (i room : ℕ) (d : Value) → i < length row → row_rank (drop i row) room ≡ value_rank (get_or row i d) (row_rank (drop (i + 1) row)) room
+-- one more value is put before the others
+pub row_puts : (v : Value) (row : List Value) (n f m g : ℕ) → AllByRecursion FitsRank row → Puts (value_rank v) n f m g → n + row_rank (v ∷ row) f ≡ m + row_rank row g
 unfolding row_rank
-row_turn row i room d l = rw (drop-cons row i d l) (ap (λ j. value_rank (get_or row i d) (row_rank (drop j row)) room) (sym (add-one i)))
+row_puts v row n f m g fits puts = puts (row_rank row) (row_fits row fits)
 
-pub row_end : (row : List Value) (i room : ℕ) → length row ≤ i → row_rank (drop i row) room ≡ 0
+-- none is left to put
+pub row_ended : (n f : ℕ) → n + row_rank [] f ≡ n
 unfolding row_rank
-row_end row i room h = rw (drop_all i row h) refl
+row_ended n f = omega arith
+
+-- and where no bit is free, nothing is added
+pub row_full : (row : List Value) (n f : ℕ) → AllByRecursion FitsRank row → f ≡ 0 → n + row_rank row f ≡ n
+row_full row n f fits e = let none = no_room (row_rank row) f (row_fits row fits) e in omega (arith, none)
+
+-- the first value is put, cut, before the others
+pub rank_whole : (skip : ℕ) (row rest : List Value) (v w : Value) (n f : ℕ) → row ≡ v ∷ rest → w ≡ cut_value skip v → n ≡ 0 → f ≡ 128 → n + row_rank (w ∷ rest) f ≡ row_rank (cut_row skip row) 128
+rank_whole skip row rest v w n f e h z t =
+    ap₂ (λ k j. k + row_rank (w ∷ rest) j) z t
+    ∙ zero-add (row_rank (w ∷ rest) 128)
+    ∙ ap (λ u. row_rank (u ∷ rest) 128) h
+    ∙ ap (λ r. row_rank (cut_row skip r) 128) (sym e)
+
+-- a row of no values has none to put
+pub rank_none : (skip : ℕ) (row : List Value) → row ≡ [] → 0 ≡ row_rank (cut_row skip row) 128
+unfolding row_rank
+rank_none skip row e = sym (ap (λ r. row_rank (cut_row skip r) 128) e)

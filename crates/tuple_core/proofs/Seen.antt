@@ -1,5 +1,5 @@
 -- Rows are read in place: the values of an encoding are seen one after another.
-use Rattle.std.proofs.Common.{◌≡◌, ℕ, zero, suc, ◌-◌, ◌<◌, List, [], ◌∷◌, ◌++◌, length, Bool, true, false, nat_eq, Option, Some, None, option_map, refl, sym, ap, subst, ◌∙◌, arith, append-nil, append_assoc}
+use Rattle.std.proofs.Common.{◌≡◌, ℕ, ◌-◌, ◌<◌, List, [], ◌∷◌, ◌++◌, length, Bool, true, false, nat_eq, Option, Some, None, option_map, refl, sym, ap, subst, ◌∙◌, arith, append-nil}
 use Rattle.std.specs.Cmp.Lexicographic.{bytes_decides, pointwise}
 use Rattle.std.specs.List.{AllByRecursion, flat_map}
 use Rattle.tuple_core.proofs.Back.{integer_back, text_bytes_back, values_back}

@@ -1,8 +1,9 @@
 -- The number of 128 bits that a row is sorted by first: where two rows' numbers differ, the rows stand as the numbers do.
-use Rattle.std.specs.Prelude.{◌≡◌, ℕ, ◌+◌, ◌-◌, ◌*◌, ◌/◌, ◌^◌, ◌<◌, nat_le, [], ◌∷◌, if◌then◌else◌, ℤ, negsuc, ◌-ℤ◌, unsigned_abs}
-use Rattle.std.specs.Int.{from_bool}
+use Rattle.std.specs.Prelude.{◌≡◌, ℕ, ◌+◌, ◌-◌, ◌*◌, ◌/◌, ◌^◌, ◌<◌, ◌++◌, nat_le, [], ◌∷◌, drop, Contains, FitsSigned, if◌then◌else◌, ℤ, negsuc, ◌-ℤ◌, unsigned_abs}
+use Rattle.std.specs.Int.{w64, from_bool}
 use Rattle.med_prelude.specs.Texts.{Bytes}
-use Rattle.tuple_core.specs.Values.{FitsRow, RowValues}
+use Rattle.tuple_core.specs.Decoding.{AreBytes}
+use Rattle.tuple_core.specs.Values.{RowList, RowValues, row_cmp}
 use Rattle.tuple_core.specs.declared.value.Value.{Value}
 use Rattle.tuple_core.specs.declared.value.Value.TheVariants as value
 
@@ -30,10 +31,37 @@ unfoldable pub row_rank : RowValues → ℕ → ℕ
 row_rank [] room = 0
 row_rank (v ∷ row) room = value_rank v (row_rank row) room
 
--- the number is the rank of the row
-pub record IsRanked (rank : ℕ) (row : RowValues) : Type 0 where
-  pub fits : FitsRow row
-  pub is : rank ≡ row_rank row 128
+-- an integer of 64 bits, bytes that may or may not be UTF-8, or a truth value
+abbrev pub FitsRank : Value → Type 0
+FitsRank (value.Int z) = FitsSigned w64 z
+FitsRank (value.Text bytes) = AreBytes bytes
+FitsRank (value.Bool b) = Unit {0}
+
+-- the value without its first bytes, where it is a text
+abbrev pub cut_value : ℕ → Value → Value
+cut_value skip (value.Int z) = value.Int z
+cut_value skip (value.Text bytes) = value.Text (drop skip bytes)
+cut_value skip (value.Bool b) = value.Bool b
+
+-- the row whose first value is cut
+abbrev pub cut_row : ℕ → RowValues → RowValues
+cut_row skip [] = []
+cut_row skip (v ∷ row) = cut_value skip v ∷ row
+
+-- cut rows stand as the rows do
+abbrev pub CutsAlike : ℕ → RowList → Type 0
+CutsAlike skip rows = (r s : RowValues) → Contains rows r → Contains rows s → row_cmp (cut_row skip r) (cut_row skip s) ≡ row_cmp r s
+
+-- where the value is a text, it begins with these bytes
+abbrev pub TextBegins : Bytes → Value → Type 0
+TextBegins front (value.Int z) = Unit {0}
+TextBegins front (value.Text bytes) = (rest : Bytes) × (bytes ≡ front ++ rest)
+TextBegins front (value.Bool b) = Unit {0}
+
+-- where the row's first value is a text, it begins with these bytes
+abbrev pub FirstTextBegins : Bytes → RowValues → Type 0
+FirstTextBegins front [] = Unit {0}
+FirstTextBegins front (v ∷ row) = TextBegins front v
 
 -- what follows is below 2 to the bits of its room
 abbrev pub FitsRoom : (ℕ → ℕ) → Type 0

@@ -89,7 +89,8 @@ impl<'a> EncodedRow<'a> {
 
     /// The values from left to right.
     pub fn values(&self) -> EncodedValues<'a>
-        ensures { result ≡ self.now }
+        ensures value { result ≡ self.now }
+        ensures fits { FitsRow self.now }
     {
         match self.bytes.split_first() {
             Some((count, bytes)) => EncodedValues {

@@ -18,14 +18,12 @@
 mod columns;
 mod comparing;
 mod decoding;
-mod distinct;
 mod encoded;
 mod encoding;
 mod hashing;
 mod keys;
 mod laws;
 mod parsing;
-mod ranked;
 mod ranking;
 mod row;
 #[cfg(test)]
@@ -36,7 +34,6 @@ mod writing;
 pub use columns::{Column, Columns, Kind};
 pub use comparing::{Op, compare, row_order, same_value};
 pub use decoding::{DecodeFault, decode};
-pub use distinct::sorted_distinct;
 pub use encoded::{EncodedRow, EncodedValues, ValueRef};
 pub use encoding::{encode, weight};
 pub use hashing::{bucket_of, hash};
@@ -47,7 +44,7 @@ pub use laws::{
 };
 pub use med_prelude::{Listed, Text};
 pub use parsing::{field_value, numeral, parse_value};
-pub use row::{Row, Rows};
+pub use row::Row;
 pub use value::Value;
 pub use writing::text_of;
 

@@ -1,11 +1,13 @@
 //! How a row's rank is made: the first 128 bits of a spelling of the row that keeps the order of rows.
 
 ghost use Rattle.std.specs.Prelude.{◌≡◌, ◌+◌, ◌<◌, ◌≤◌, ◌^◌};
-ghost use Rattle.tuple_core.specs.Ranks.{Puts, put_digit, row_rank, text_rank, value_rank};
-ghost use Rattle.tuple_core.specs.Values.{FitsRow, FitsValue};
+ghost use Rattle.std.specs.List.{AllByRecursion};
+ghost use Rattle.tuple_core.specs.Encoded.{value_seen};
+ghost use Rattle.tuple_core.specs.declared.value.Value.{Value};
+ghost use Rattle.tuple_core.specs.Ranks.{FitsRank, Puts, cut_row, cut_value, put_digit, row_rank, text_rank, value_rank};
+ghost use Rattle.tuple_core.specs.Values.{FitsRow};
 
-use crate::row::Row;
-use crate::value::Value;
+use crate::encoded::{EncodedRow, EncodedValues, ValueRef};
 
 const KIND_BITS: u32 = 2;
 
@@ -80,25 +82,56 @@ fn put_text(bytes: &[u8], start: Room) -> Room
     room.put(BYTE_BITS, 0)
 }
 
-fn put_value(value: &Value, room: Room) -> Room
-    requires { FitsValue value.now }
-    ensures { Puts (value_rank value.now) room.number room.free result.number result.free }
+fn put_value(value: ValueRef<'_>, room: Room) -> Room
+    requires { FitsRank (value_seen value) }
+    ensures { Puts (value_rank (value_seen value.entry)) room.number room.free result.number result.free }
 {
     match value {
-        Value::Int(number) => put_integer(*number, room),
-        Value::Text(text) => put_text(text.as_bytes(), room.put(KIND_BITS, TEXT)),
-        Value::Bool(truth) => room.put(KIND_BITS, TRUTH).put(1, u64::from(*truth)),
+        ValueRef::Int(number) => put_integer(number, room),
+        ValueRef::Text(bytes) => put_text(bytes, room.put(KIND_BITS, TEXT)),
+        ValueRef::Bool(truth) => room.put(KIND_BITS, TRUTH).put(1, u64::from(truth)),
     }
 }
 
-/// The rank of a row: where two ranks differ, the rows stand as they do. Equal ranks say nothing.
-pub(crate) fn rank_of(row: &Row) -> u128
-    ensures rank { result ≡ row_rank row.now 128 }
-    ensures fits { FitsRow row.now }
+// The number of the room once the values stand behind what is there.
+fn number_behind(values: EncodedValues<'_>, start: Room) -> u128
+    requires { AllByRecursion FitsRank values }
+    ensures { result ≡ start.number + row_rank values.entry start.free }
 {
-    let mut room = Room::new();
-    for value in row.values() {
+    let mut room = start;
+    for value in values {
+        if room.free == 0 {
+            return room.number;
+        }
         room = put_value(value, room);
     }
     room.number
+}
+
+fn cut(value: ValueRef<'_>, skip: usize) -> ValueRef<'_>
+    ensures { value_seen result ≡ cut_value skip (value_seen value.entry) }
+{
+    match value {
+        ValueRef::Int(number) => ValueRef::Int(number),
+        ValueRef::Text(bytes) => match bytes.split_at_checked(skip) {
+            Some((_, rest)) => ValueRef::Text(rest),
+            None => ValueRef::Text(&[]),
+        },
+        ValueRef::Bool(truth) => ValueRef::Bool(truth),
+    }
+}
+
+impl<'a> EncodedRow<'a> {
+    /// The rank of the row without the first bytes of its first value, where that is a text. Where the first texts of
+    /// all rows share these bytes and two ranks differ, the rows stand as their ranks do. Equal ranks say nothing.
+    pub fn rank(&self, skip: usize) -> u128
+        ensures rank { result ≡ row_rank (cut_row skip self.now) 128 }
+        ensures fits { FitsRow self.now }
+    {
+        let mut values = self.values();
+        match values.next() {
+            Some(first) => number_behind(values, put_value(cut(first, skip), Room::new())),
+            None => 0,
+        }
+    }
 }

@@ -6,7 +6,6 @@ ghost use Rattle.tuple_core.specs.Order.{row_eq, rows_equiv, rows_total, rows_ti
 ghost use Rattle.tuple_core.specs.Values.{FitsRow, row_cmp};
 
 use crate::value::Value;
-use med_prelude::Listed;
 use std::alloc::AllocError;
 use std::cmp::Ordering;
 use std::marker::Model;
@@ -51,9 +50,6 @@ impl Row {
         self.values.as_slice()
     }
 }
-
-/// Rows, which may have different numbers of values.
-pub type Rows = Listed<Row>;
 
 impl Clone for Row {
     ghost is_clone = { λ row copy. copy ≡ row };

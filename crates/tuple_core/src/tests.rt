@@ -3,8 +3,6 @@
 ghost use Rattle.std.specs.Prelude.{IfOk};
 ghost use Rattle.tuple_core.specs.Values.{FitsValue};
 
-mod sorting;
-
 use super::*;
 use std::alloc::{AllocError, Global};
 use std::test::Fail;

@@ -4,7 +4,6 @@ use Rattle.std.proofs.lemmas.Int.{to_z-of_z}
 use Rattle.tuple_core.specs.Ranks.{put_digit, text_rank, value_rank}
 use Rattle.tuple_core.proofs.Digits.{digit_fits, puts_both}
 use Rattle.tuple_core.proofs.Ranks.{bit_fits, text_fits}
-use Rattle.tuple_core.proofs.TextBytes.{bytes_below}
 use Rattle.tuple_core.proofs.ranking.put_value.Goals as goal
 
 pub returns-in-Int : goal.returns-in-Int
@@ -15,8 +14,10 @@ returns-in-Int c =
 pub returns-in-Text : goal.returns-in-Text
 unfolding value_rank
 returns-in-Text c =
-    let both = puts_both (put_digit 2 2) (text_rank c.as_bytes.result.now) _ _ _ _ _ _ (λ rest fits. text_fits c.as_bytes.result.now rest (bytes_below c.as_bytes.result.now (rw c.as_bytes.ensures.value c.as_bytes.ensures.utf8)) fits) c.put.ensures c.put_text.ensures in
-    rw (c.in-Text.is, sym c.as_bytes.ensures.value) both
+    let bytes = c.in-Text.bytes.now in
+    let small = rw c.in-Text.is at c.requires in
+    let both = puts_both (put_digit 2 2) (text_rank bytes) _ _ _ _ _ _ (λ rest fits. text_fits bytes rest small.small fits) c.put.ensures c.put_text.ensures in
+    rw c.in-Text.is both
 
 pub returns-in-Bool : goal.returns-in-Bool
 unfolding value_rank

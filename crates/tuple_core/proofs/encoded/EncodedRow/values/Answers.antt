@@ -8,7 +8,7 @@ invariant_of-result c =
     let whole : c.self.inside.bytes.now ≡ c.in-Some.count.now ∷ c.in-Some.bytes.now = search rules in
     (row_left (row_of c.self.inside.bytes.now) _ _ c.self.invariant.fits.each (c.self.invariant.is ∙ whole)).1
 
-pub returns : goal.returns
-returns c =
+pub returns-clause-value : goal.returns-clause-value
+returns-clause-value c =
     let whole : c.self.inside.bytes.now ≡ c.in-Some.count.now ∷ c.in-Some.bytes.now = search rules in
     (row_left (row_of c.self.inside.bytes.now) _ _ c.self.invariant.fits.each (c.self.invariant.is ∙ whole)).0 ∙ c.self.view_is

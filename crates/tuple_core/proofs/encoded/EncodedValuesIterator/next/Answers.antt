@@ -1,5 +1,5 @@
-use Rattle.std.proofs.Common.{◌≡◌, ◌<◌, ◌∷◌, ap, sym, ◌∙◌, length, arith, rules}
-use Rattle.tuple_core.specs.Encoded.{value_seen, values_left}
+use Rattle.std.proofs.Common.{◌<◌, ap, sym, ◌∙◌, length, arith}
+use Rattle.tuple_core.specs.Encoded.{value_seen}
 use Rattle.tuple_core.proofs.Seen.{sees_first, sees_some}
 use Rattle.tuple_core.proofs.encoded.EncodedValuesIterator.next.Goals as goal
 
