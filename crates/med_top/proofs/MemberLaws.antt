@@ -128,7 +128,7 @@ left_alone source columns told name at faults asked given old new (Ok done) name
   asked = sym (append-nil asked);
   given = sym (append-nil given);
   stays = λ _. ((refl, refl), end);
-  ends = λ first lower so_far. rw (grown, rows, end) (starved_on source columns first faults old.members old.rows.items (idle_member name at) old.end runs (refl, refl) so_far);
+  ends = λ first lower so_far. rw (grown, rows, end) (starved_on source columns first faults old.members old.rows (idle_member name at) old.end runs (refl, refl) so_far);
 }
 
 pub asked_more : {S : Type 0} (members more : List (MemberEnd S)) → asked_locations (members ++ more) ≡ asked_locations members ++ asked_locations more

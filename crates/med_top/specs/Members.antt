@@ -110,6 +110,6 @@ pub record Advances {S M : Type 0} (source : Source S M) (columns : List Column)
   pub is_member : IsMemberOf source columns told atom group location member
   pub asked : opener.asked.new ≡ opener.asked.old ++ asked_locations (member ∷ [])
   pub given : opener.given.new ≡ opener.given.old ++ given_marks source (member ∷ [])
-  pub ends : (first : ℕ) → first ≤ opener.faults.old → EndsRun source columns first opener.faults.old old.members old.rows.items old.end
-      → EndsRun source columns first opener.faults.new new.members new.rows.items new.end
+  pub ends : (first : ℕ) → first ≤ opener.faults.old → EndsRun source columns first opener.faults.old old.members old.rows old.end
+      → EndsRun source columns first opener.faults.new new.members new.rows new.end
   pub stays : (old.end ≡ run.Settled → ⊥) → IsIdle member × (new.end ≡ old.end)

@@ -10,7 +10,7 @@ use crate::target::Target;
 use csv_wrap::Members;
 use med_base::Opener;
 use std::alloc::{AllocError, Global};
-use tuple_core::Rows;
+use row_pages::Rows;
 
 /// The members of the atoms so far, the rows that came for each atom, and how the run stands.
 #[derive(Drop)]
@@ -64,7 +64,7 @@ fn read_next<O: Opener>(
 {
     let own = read_groups(alloc, opener, target, atom, read.end)?;
     append(&mut read.members, own.members)?;
-    read.arrivals.push(Rows::from_vec(own.rows))?;
+    read.arrivals.push(own.rows)?;
     read.end = own.end;
     Ok(())
 }

@@ -10,8 +10,9 @@ use crate::member::read_member;
 use crate::target::Target;
 use csv_wrap::{MemberEnd, Members};
 use med_base::{GroupName, MemberName, MemberState, Opener};
+use row_pages::Rows;
 use std::alloc::{AllocError, Global};
-use tuple_core::{Columns, Row, Text};
+use tuple_core::{Columns, Text};
 
 /// How the run of members ended.
 #[derive(Clone, Copy, Debug, PartialEq, Eq)]
@@ -28,7 +29,7 @@ pub enum RunEnd {
 #[derive(Drop)]
 pub struct GroupsRead<S> {
     pub members: Members<S>,
-    pub rows: Vec<Row>,
+    pub rows: Rows,
     pub end: RunEnd,
 }
 
@@ -43,7 +44,7 @@ pub fn read_groups<O: Opener>(
 ) -> Result<GroupsRead<O::S>, AllocError>
     requires within { IsTargetWithin target.now }
     ensures members { IfOk result (λ read. AreMembers O.S.Source target.now.columns (O.told opener.old) atom 1 target.now.locations read.members) }
-    ensures ends { IfOk result (λ read. end ≡ RunEnd.Settled → EndsRun O.S.Source target.now.columns (O.faults opener.old) (O.faults opener.new) read.members read.rows.items read.end) }
+    ensures ends { IfOk result (λ read. end ≡ RunEnd.Settled → EndsRun O.S.Source target.now.columns (O.faults opener.old) (O.faults opener.new) read.members read.rows read.end) }
     ensures stays { IfOk result (λ read. (end ≡ RunEnd.Settled → ⊥) → AllByRecursion IsIdle read.members × (read.end ≡ end)) }
     ensures asked { IfOk result (λ read. O.asked opener.new ≡ O.asked opener.old ++ asked_locations read.members) }
     ensures given { IfOk result (λ read. O.given opener.new ≡ O.given opener.old ++ given_marks O.S.Source read.members) }
@@ -52,7 +53,7 @@ pub fn read_groups<O: Opener>(
 {
     let mut read = GroupsRead {
         members: Members::new(alloc),
-        rows: Vec::new(alloc),
+        rows: Rows::new(alloc),
         end,
     };
     for (index, location) in target.locations.as_slice().iter().enumerate() {

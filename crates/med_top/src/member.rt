@@ -8,8 +8,9 @@ use crate::groups::RunEnd;
 use crate::taking::{SourceEnd, take_rows};
 use csv_wrap::{MemberEnd, Wrapper};
 use med_base::{GroupName, MemberFault, MemberName, MemberState, OpenFault, Opener, Source};
+use row_pages::Rows;
 use std::alloc::{AllocError, Global};
-use tuple_core::{Columns, Row, Text};
+use tuple_core::{Columns, Text};
 
 /// A member after its run, and how that ended.
 #[derive(Drop)]
@@ -25,12 +26,12 @@ pub fn read_member<O: Opener>(
     columns: &Columns,
     name: MemberName,
     location: Text,
-    rows: &mut Vec<Row>,
+    rows: &mut Rows,
 ) -> Result<Ran<O::S>, AllocError>
     requires width { length columns.now ≤ 16 }
     requires name { name ≡ member_of name.atom name.group }
     ensures member { IfOk result (λ ran. IsMemberOf O.S.Source columns.now (O.told opener.old) name.atom name.group location ran.member) }
-    ensures ends { IfOk result (λ ran. EndsMember O.S.Source columns.now (O.faults opener.old) (O.faults opener.new) rows.old.items rows.new.items ran.member ran.end) }
+    ensures ends { IfOk result (λ ran. EndsMember O.S.Source columns.now (O.faults opener.old) (O.faults opener.new) rows.old rows.new ran.member ran.end) }
     ensures asked { IfOk result (λ ran. O.asked opener.new ≡ O.asked opener.old ++ asked_locations (ran.member ∷ [])) }
     ensures given { IfOk result (λ ran. O.given opener.new ≡ O.given opener.old ++ given_marks O.S.Source (ran.member ∷ [])) }
     ensures faults { O.faults opener.old ≤ O.faults opener.new }
@@ -69,7 +70,7 @@ fn read_source<S: Source>(
     columns: &Columns,
     name: MemberName,
     location: Text,
-    rows: &mut Vec<Row>,
+    rows: &mut Rows,
 ) -> Result<Ran<S>, AllocError>
     requires width { length columns.now ≤ 16 }
     requires name { name ≡ member_of name.atom name.group }
@@ -78,7 +79,7 @@ fn read_source<S: Source>(
     requires calm { S.faults source ≡ 0 }
     requires few { S.left source ≤ 2 ^ 62 }
     ensures member { IfOk result (λ ran. IsMemberOf S.Source columns.now (λ _. S.whole source) name.atom name.group location ran.member) }
-    ensures ends { IfOk result (λ ran. (old : ℕ) (new : ℕ) → EndsMember S.Source columns.now old new rows.old.items rows.new.items ran.member ran.end) }
+    ensures ends { IfOk result (λ ran. (old : ℕ) (new : ℕ) → EndsMember S.Source columns.now old new rows.old rows.new ran.member ran.end) }
     ensures source { IfOk result (λ ran. IsSomeAnd ran.member.source (λ s. S.mark s ≡ S.mark source)) }
 {
     let mut wrapper = Wrapper::new(alloc, source, columns)?;

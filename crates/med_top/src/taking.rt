@@ -8,7 +8,7 @@ ghost use Rattle.tuple_core.specs.Values.{RowList};
 use csv_wrap::{NextRow, Pulled, Wrapper};
 use med_base::{MemberFault, Source};
 use std::alloc::{AllocError, Global};
-use tuple_core::Row;
+use row_pages::Rows;
 
 /// So many pulls in a row that find nothing there end a run.
 pub const IDLE_LIMIT: u64 = 100_000;
@@ -27,11 +27,11 @@ pub enum SourceEnd {
 pub fn take_rows<S: Source>(
     alloc: Global,
     wrapper: &mut Wrapper<S>,
-    rows: &mut Vec<Row>,
+    rows: &mut Rows,
 ) -> Result<SourceEnd, AllocError>
     requires fresh { HasGiven S.Source wrapper.old [] }
     requires kept { wrapper.old.kept ≡ [] }
-    ensures taken { IfOk result (λ _. HasTaken S.Source wrapper.new rows.old.items rows.new.items) }
+    ensures taken { IfOk result (λ _. HasTaken S.Source wrapper.new rows.old rows.new) }
     ensures ends { IfOk result (λ end. EndsTaking S.Source wrapper.new end) }
     ensures columns { wrapper.new.ahead.columns ≡ wrapper.old.ahead.columns }
     ensures source { SameSource S.Source wrapper.old.source wrapper.new.source }
@@ -60,10 +60,10 @@ pub fn take_rows<S: Source>(
 fn take_held<S: Source>(
     alloc: Global,
     wrapper: &mut Wrapper<S>,
-    rows: &mut Vec<Row>,
+    rows: &mut Rows,
 ) -> Result<Option<MemberFault>, AllocError>
-    requires { (before : RowList) × HasTaken S.Source wrapper.old before rows.old.items }
-    ensures taken { IfOk result (λ _. (before : RowList) → HasTaken S.Source wrapper.old before rows.old.items → HasTaken S.Source wrapper.new before rows.new.items) }
+    requires { (before : RowList) × HasTaken S.Source wrapper.old before rows.old }
+    ensures taken { IfOk result (λ _. (before : RowList) → HasTaken S.Source wrapper.old before rows.old → HasTaken S.Source wrapper.new before rows.new) }
     ensures up { IfOk result (λ fault. IsTakenUp S.Source wrapper.new fault) }
     ensures columns { wrapper.new.ahead.columns ≡ wrapper.old.ahead.columns }
     ensures source { wrapper.new.source ≡ wrapper.old.source }
@@ -72,7 +72,7 @@ fn take_held<S: Source>(
 {
     'rows: loop {
         match wrapper.next_row(alloc) {
-            NextRow::Row(row) => rows.push(row)?,
+            NextRow::Row(row) => rows.push(alloc, &row)?,
             NextRow::Nothing => return Ok(None),
             NextRow::Failed(fault) => return Ok(Some(fault)),
             NextRow::NoMemory => return Err(AllocError),

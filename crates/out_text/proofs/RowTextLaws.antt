@@ -1,6 +1,7 @@
 -- The text of rows, row by row.
-use Rattle.std.proofs.Common.{◌≡◌, ℕ, ◌+◌, ◌==◌, ◌<◌, ◌≤◌, Some, true, List, [], ◌∷◌, ◌++◌, length, map, take, get_or, sym, ap, ◌∙◌, refl, append_assoc, append-nil, if◌then◌else◌}
-use Rattle.std.proofs.lemmas.List.{take_more, take_all}
+use Rattle.std.proofs.Common.{◌≡◌, ℕ, ◌+◌, ◌==◌, ◌<◌, ◌≤◌, Some, true, List, [], ◌∷◌, ◌++◌, length, map, take, drop, get_or, sym, ap, ◌∙◌, refl, append_assoc, append-nil, if◌then◌else◌}
+use Rattle.std.proofs.lemmas.List.{take_more, take-append-drop}
+use Rattle.std.proofs.lemmas.Grind.{flat_map-append}
 use Rattle.csv.specs.Writing.{default_writer, escaped, fields_text, field_text, is_blank, needs_quotes, row_body, row_text, with_flexible}
 use Rattle.csv.specs.declared.writer.WriterBuilder.{WriterBuilder}
 use Rattle.tuple_core.specs.RowText.{line_of, rows_text}
@@ -52,13 +53,17 @@ rows_text_next rows i row within is = ap rows_text (take_more rows i row within 
 same_bytes : (a b : List ℕ) → Some a ≡ Some b → a ≡ b
 same_bytes a b e = cc
 
--- the text so far, and the line of the row at hand
-pub row_appended : (old new line : List ℕ) (rows : RowList) (i : ℕ) (row : RowValues)
-    → Some old ≡ Some (rows_text (take i rows)) → new ≡ old ++ line → line ≡ line_of row → i < length rows → row ≡ get_or rows i row
-    → Some new ≡ Some (rows_text (take (i + 1) rows))
-row_appended old new line rows i row so_far grew is_line within is =
-    ap Some (grew ∙ ap (λ text. text ++ line) (same_bytes _ _ so_far) ∙ ap (λ more. rows_text (take i rows) ++ more) is_line ∙ sym (rows_text_next rows i row within is))
+-- the text so far, behind that of earlier rows, and the line of the row at hand
+pub row_appended : (front old new line : List ℕ) (rows : RowList) (i : ℕ) (row : RowValues)
+    → Some (front ++ old) ≡ Some (rows_text (take i rows)) → new ≡ old ++ line → line ≡ line_of row → i < length rows → row ≡ get_or rows i row
+    → Some (front ++ new) ≡ Some (rows_text (take (i + 1) rows))
+row_appended front old new line rows i row so_far grew is_line within is =
+    ap Some (ap (λ text. front ++ text) grew ∙ sym (append_assoc front old line) ∙ ap (λ text. text ++ line) (same_bytes _ _ so_far) ∙ ap (λ more. rows_text (take i rows) ++ more) is_line ∙ sym (rows_text_next rows i row within is))
 
-pub all_appended : (old text : List ℕ) (rows : RowList) (i : ℕ)
-    → Some old ≡ Some (rows_text (take i rows)) → text ≡ old → length rows ≤ i → text ≡ rows_text rows
-all_appended old text rows i so_far is past = is ∙ same_bytes _ _ so_far ∙ ap rows_text (take_all i rows past)
+pub all_appended : (front old text : List ℕ) (rows : RowList) (i : ℕ)
+    → Some (front ++ old) ≡ Some (rows_text (take i rows)) → text ≡ old → front ++ text ≡ rows_text (take i rows)
+all_appended front old text rows i so_far is = ap (λ more. front ++ more) is ∙ same_bytes _ _ so_far
+
+-- the rows from an index on are behind those up to it
+pub rows_text_split : (rows : RowList) (i : ℕ) → rows_text rows ≡ rows_text (take i rows) ++ rows_text (drop i rows)
+rows_text_split rows i = ap rows_text (sym (take-append-drop i rows)) ∙ flat_map-append line_of (take i rows) (drop i rows)

@@ -1,7 +1,7 @@
 -- What was written of a text, piece by piece.
-use Rattle.std.proofs.Common.{◌≡◌, ℕ, ◌+◌, ◌++◌, Some, None, take, drop, refl, sym, ap, ◌∙◌, append_assoc}
-use Rattle.std.proofs.Math.Seq.{take-add}
-use Rattle.std.proofs.lemmas.List.{drop-drop}
+use Rattle.std.proofs.Common.{◌≡◌, ℕ, ◌+◌, ◌++◌, Some, None, take, drop, length, min, arith, refl, sym, ap, ◌∙◌, append_assoc}
+use Rattle.std.proofs.Math.Seq.{take-add, take-append-add}
+use Rattle.std.proofs.lemmas.List.{drop-drop, take-append-le, take_min}
 use Rattle.med_prelude.specs.Texts.{Bytes, ToldBytes, told_with}
 use Rattle.out_text.specs.Writing.{IsWrittenUpTo}
 
@@ -15,3 +15,14 @@ written_more old mid new text rest after k done more is_after = record {
   written = more ∙ ap (λ told. told_with told (take k rest)) done.written ∙ grown_twice old (take done.count text) (take k rest) ∙ ap (told_with old) (ap (λ left. take done.count text ++ take k left) done.left ∙ sym (take-add done.count k text));
   left = is_after ∙ ap (drop k) done.left ∙ drop-drop k done.count text;
 }
+
+-- behind what was written of a text, a prefix of its next piece
+pub prefix_more : (old mid new : ToldBytes) (front piece rest whole : Bytes) (k : ℕ) → mid ≡ told_with old front → new ≡ told_with mid (take k piece) → whole ≡ (front ++ piece) ++ rest
+    → (n : ℕ) × (new ≡ told_with old (take n whole))
+prefix_more old mid new front piece rest whole k done more is =
+    (length front + min k (length piece),
+    more ∙ ap (λ told. told_with told (take k piece)) done ∙ grown_twice old front (take k piece)
+    ∙ ap (told_with old) (sym (ap (take (length front + min k (length piece))) (is ∙ append_assoc front piece rest) ∙ take-append-add front (piece ++ rest) (min k (length piece)) ∙ ap (λ x. front ++ x) (piece_front piece rest k))))
+  where
+    piece_front : (piece rest : Bytes) (k : ℕ) → take (min k (length piece)) (piece ++ rest) ≡ take k piece
+    piece_front piece rest k = take-append-le (min k (length piece)) piece rest (omega arith) ∙ take_min k piece

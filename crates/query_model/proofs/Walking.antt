@@ -142,7 +142,7 @@ cut_back old now after before e same kept =
 
 -- ---- the whole walk
 
-heads_of_choices : (q : Query) (arrivals : List (List (List Value))) → heads_from q [] (items q.atoms arrivals) ≡ heads q.head q.atoms q.comparisons arrivals
+pub heads_of_choices : (q : Query) (arrivals : List (List (List Value))) → heads_from q [] (items q.atoms arrivals) ≡ heads q.head q.atoms q.comparisons arrivals
 heads_of_choices q arrivals =
     ap (map (head_row q.head)) (walk_begins values_join item_fits item_entries (all_hold q.comparisons) lists ∙ sym (choices_solutions values_join item_fits item_entries (all_hold q.comparisons) lists))
     ∙ map_map (head_row q.head) (binding_at q.atoms arrivals) (choices q.atoms q.comparisons arrivals)
@@ -150,8 +150,8 @@ heads_of_choices q arrivals =
     lists : List (List Item)
     lists = items q.atoms arrivals
 
--- the distinct rows of what the walk found are the answer
-pub walk_answers : {E : Type 0} (q : Query) (arrivals : List (List (List Value))) (found : List (List Value)) (result : Result (List (List Value)) E) → found ≡ heads_from q [] (items q.atoms arrivals)
+-- the heads in their order, each once, are the answer
+pub heads_answer : {E : Type 0} (q : Query) (arrivals : List (List (List Value))) (found : List (List Value)) (result : Result (List (List Value)) E) → found ≡ heads q.head q.atoms q.comparisons arrivals
     → IfOk result (λ rows. AreSortedDistinct found rows) → IfOk result (λ rows. rows ≡ answer_of q arrivals)
-walk_answers q arrivals found (Ok rows) e h = only_sorted_rows (heads q.head q.atoms q.comparisons arrivals) rows (rw (← heads_of_choices q arrivals, ← e) h)
-walk_answers q arrivals found (Err fault) e h = tt
+heads_answer q arrivals found (Ok rows) e h = only_sorted_rows (heads q.head q.atoms q.comparisons arrivals) rows (rw (← e) h)
+heads_answer q arrivals found (Err fault) e h = tt

@@ -1,7 +1,7 @@
 //! Answers a query by nested choice.
 
 ghost use Rattle.std.specs.Prelude.{◌≡◌, ◌≤◌, ◌++◌, length, IfOk, OnOk};
-ghost use Rattle.query_core.specs.Answers.{answer_of, items};
+ghost use Rattle.query_core.specs.Answers.{answer_of, heads, items};
 ghost use Rattle.query_model.specs.Walks.{binding_of, heads_from, AreBound};
 
 use crate::entries::{Entry, bind_row};
@@ -41,10 +41,10 @@ fn walk<'a>(
     Ok(())
 }
 
-/// The distinct rows of the query's answer, in their order. It takes a row of each atom in turn, in each way.
-pub fn slow_answer(alloc: Global, query: &Query, arrivals: &Arrivals) -> Result<Rows, AllocError>
+/// The heads of the choices, found by taking a row of each atom in turn, in each way.
+pub fn slow_heads(alloc: Global, query: &Query, arrivals: &Arrivals) -> Result<Rows, AllocError>
     requires head { length query.now.head ≤ Row.MOST_VALUES }
-    ensures { IfOk result (λ rows. rows ≡ answer_of query.now arrivals.now) }
+    ensures { IfOk result (λ rows. rows ≡ heads query.now.head query.now.atoms query.now.comparisons arrivals.now) }
 {
     let mut entries = Vec::new(alloc);
     let mut found = Rows::new(alloc);
@@ -56,5 +56,14 @@ pub fn slow_answer(alloc: Global, query: &Query, arrivals: &Arrivals) -> Result<
         &mut entries,
         &mut found,
     )?;
+    Ok(found)
+}
+
+/// The distinct rows of the query's answer, in their order.
+pub fn slow_answer(alloc: Global, query: &Query, arrivals: &Arrivals) -> Result<Rows, AllocError>
+    requires head { length query.now.head ≤ Row.MOST_VALUES }
+    ensures { IfOk result (λ rows. rows ≡ answer_of query.now arrivals.now) }
+{
+    let found = slow_heads(alloc, query, arrivals)?;
     sorted_distinct(alloc, found)
 }

@@ -6,10 +6,11 @@ ghost use Rattle.tuple_core.specs.Values.{FitsValue};
 use super::*;
 use med_prelude::Listed;
 use query_core::{Arrivals, Atom, Comparison, Query, Term};
+use row_pages::Rows;
 use std::alloc::Global;
 use std::process::Abort;
 use std::test::Fail;
-use tuple_core::{Kind, Op, Row, Rows, Value, parse_value};
+use tuple_core::{Kind, Op, Row, Value, parse_value};
 
 // Whole numbers and truth values stand for themselves, and every other field is a text.
 fn value(alloc: Global, field: &str) -> Result<Value, Fail>
@@ -46,7 +47,7 @@ fn row(alloc: Global, line: &str) -> Result<Row, Fail> {
 fn rows(alloc: Global, lines: &str) -> Result<Rows, Fail> {
     let mut rows = Rows::new(alloc);
     for line in lines.lines() {
-        rows.push(row(alloc, line)?)?;
+        rows.push(alloc, &row(alloc, line)?)?;
     }
     Ok(rows)
 }
@@ -101,12 +102,20 @@ fn answer(alloc: Global, case: &Case) -> Result<Rows, Fail> {
     Ok(slow_answer(alloc, &query, &arrivals)?)
 }
 
+fn list(alloc: Global, rows: &Rows) -> Result<Vec<Row>, Fail> {
+    let mut list = Vec::new(alloc);
+    for row in rows.iter() {
+        list.push(row.to_row(alloc)?)?;
+    }
+    Ok(list)
+}
+
 fn check(rt: &impl Abort, alloc: Global, cases: &[Case]) -> Result<(), Fail> {
     for case in cases {
         let wanted = rows(alloc, case.answer)?;
         assert_eq!(rt;
-            answer(alloc, case)?.as_slice(),
-            wanted.as_slice(),
+            list(alloc, &answer(alloc, case)?)?.as_slice(),
+            list(alloc, &wanted)?.as_slice(),
             "{}",
             case.atoms
         );

@@ -48,7 +48,7 @@ fn reads_and_writes_values(rt: HostRuntime) -> Result<(), Fail> {
     ] {
         let value = parse_value(rt.alloc(), kind, text.as_bytes())?.ok_or("no value")?;
         let mut bytes = Vec::new(rt.alloc());
-        text_of(&value, &mut bytes)?;
+        text_of(value.seen(), &mut bytes)?;
         assert_eq!(rt; bytes.as_slice(), written.as_bytes(), "{text}");
     }
     Ok(())

@@ -11,7 +11,7 @@ abbrev pub invariant-loop-index : goal.invariant-loop-index
 invariant-loop-index g l = record {
   members : (more : List (MemberEnd g.row.O-S.Denot)) → AreMembers g.O.S.Source l.target.columns (g.O.Opener.told l.fn.opener) l.atom (l.index + 1) (drop l.index l.target.locations) more
       → AreMembers g.O.S.Source l.target.columns (g.O.Opener.told l.fn.opener) l.atom 1 l.target.locations (l.read.members ++ more);
-  ends : l.fn.end ≡ run.Settled → EndsRun g.O.S.Source l.target.columns (g.O.Opener.faults l.fn.opener) (g.O.Opener.faults l.opener) l.read.members l.read.rows.items l.read.end;
+  ends : l.fn.end ≡ run.Settled → EndsRun g.O.S.Source l.target.columns (g.O.Opener.faults l.fn.opener) (g.O.Opener.faults l.opener) l.read.members l.read.rows l.read.end;
   stays : (l.fn.end ≡ run.Settled → ⊥) → AllByRecursion IsIdle l.read.members × (l.read.end ≡ l.fn.end);
   asked : g.O.Opener.asked l.opener ≡ g.O.Opener.asked l.fn.opener ++ asked_locations l.read.members;
   given : g.O.Opener.given l.opener ≡ g.O.Opener.given l.fn.opener ++ given_marks g.O.S.Source l.read.members;

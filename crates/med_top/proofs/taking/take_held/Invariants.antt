@@ -5,7 +5,7 @@ use Rattle.med_top.proofs.taking.take_held.Given as goal
 
 abbrev pub invariant-rows : goal.invariant-rows
 invariant-rows g l = record {
-  taken : (before : List (List Value)) → HasTaken g.S.Source l.fn.wrapper before l.fn.rows.items → HasTaken g.S.Source l.wrapper before l.rows.items;
+  taken : (before : List (List Value)) → HasTaken g.S.Source l.fn.wrapper before l.fn.rows → HasTaken g.S.Source l.wrapper before l.rows;
   columns : l.wrapper.ahead.columns ≡ l.fn.wrapper.ahead.columns;
   source : l.wrapper.source ≡ l.fn.wrapper.source;
   kept : l.wrapper.kept ≡ l.fn.wrapper.kept;

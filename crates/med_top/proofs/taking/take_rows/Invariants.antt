@@ -5,7 +5,7 @@ use Rattle.med_top.proofs.taking.take_rows.Given as goal
 
 abbrev pub invariant-pulls : goal.invariant-pulls
 invariant-pulls g l = record {
-  taken : HasTaken g.S.Source l.wrapper l.fn.rows.items l.rows.items;
+  taken : HasTaken g.S.Source l.wrapper l.fn.rows l.rows;
   kept : l.wrapper.kept ≡ [];
   columns : l.wrapper.ahead.columns ≡ l.fn.wrapper.ahead.columns;
   same : SameSource g.S.Source l.fn.wrapper.source l.wrapper.source;
