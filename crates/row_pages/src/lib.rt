@@ -16,6 +16,8 @@ mod pages;
 mod pieces;
 mod rows;
 mod sorting;
+#[cfg(test)]
+mod tests;
 
 pub use pages::{Pages, Spot};
 pub use pieces::Pieces;
