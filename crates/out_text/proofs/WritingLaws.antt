@@ -1,7 +1,7 @@
 -- What was written of a text, piece by piece.
-use Rattle.std.proofs.Common.{◌≡◌, ℕ, ◌+◌, ◌++◌, Some, None, take, drop, length, min, arith, refl, sym, ap, ◌∙◌, append_assoc}
+use Rattle.std.proofs.Common.{◌≡◌, ℕ, ◌+◌, ◌++◌, Some, None, take, drop, length, min, arith, Result, Ok, Err, OnErr, refl, sym, ap, ◌∙◌, append_assoc}
 use Rattle.std.proofs.Math.Seq.{take-add, take-append-add}
-use Rattle.std.proofs.lemmas.List.{drop-drop, take-append-le, take_min}
+use Rattle.std.proofs.lemmas.List.{drop-drop, take-append-le, take_min, take_at}
 use Rattle.med_prelude.specs.Texts.{Bytes, ToldBytes, told_with}
 use Rattle.out_text.specs.Writing.{IsWrittenUpTo}
 
@@ -26,3 +26,11 @@ prefix_more old mid new front piece rest whole k done more is =
   where
     piece_front : (piece rest : Bytes) (k : ℕ) → take (min k (length piece)) (piece ++ rest) ≡ take k piece
     piece_front piece rest k = take-append-le (min k (length piece)) piece rest (omega arith) ∙ take_min k piece
+
+-- what was written before the next piece
+pub written_before : (old mid : ToldBytes) (front rest whole : Bytes) → mid ≡ told_with old front → whole ≡ front ++ rest → (n : ℕ) × (mid ≡ told_with old (take n whole))
+written_before old mid front rest whole done is = (length front, done ∙ ap (told_with old) (sym (ap (take (length front)) is ∙ take_at front rest (length front) refl)))
+
+pub on_any_error : {A E P : Type 0} (result : Result A E) → P → OnErr result P
+on_any_error (Ok x) p = tt
+on_any_error (Err why) p = p

@@ -44,7 +44,11 @@ pub fn piece_of_rows(alloc: Global, rows: &Rows, from: usize) -> Result<(Vec<u8>
     let mut buffer = Vec::new(alloc);
     let mut room = PIECE;
     let mut next = from;
-    'rows: while let Some(row) = rows.get(next) {
+    let count = rows.len();
+    'rows: while next < count {
+        let Some(row) = rows.get(next) else {
+            unreachable!();
+        };
         let most = row.bytes().len().saturating_mul(GREATEST_GROWTH);
         if most > room && next > from {
             break;

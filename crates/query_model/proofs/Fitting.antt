@@ -1,5 +1,5 @@
 -- The head's values of entries that are bound.
-use Rattle.std.proofs.Common.{◌≡◌, ℕ, ◌≤◌, Bool, true, false, cond, ◌==◌, List, [], ◌∷◌, ◌++◌, length, drop, Option, Some, None, IfSome, sym, ap, ◌∙◌, append-nil, arith}
+use Rattle.std.proofs.Common.{◌≡◌, ℕ, ◌≤◌, Bool, true, false, cond, ◌==◌, List, [], ◌∷◌, ◌++◌, length, drop, Option, Some, None, IfSome, sym, ap, subst, ◌∙◌, append-nil, arith}
 use Rattle.std.specs.List.{AllByRecursion, filter_map, cons_option}
 use Rattle.std.proofs.lemmas.List.{drop_all}
 use Rattle.answer_theory.specs.Bindings.{Binding, value_of}
@@ -22,6 +22,10 @@ head_fits b all (v ∷ vs) = go (value_of b v) (value_fits b all v) (head_fits b
         → (length (cons_option o (filter_map (value_of b) vs)) ≤ length (v ∷ vs)) × AllByRecursion FitsValue (cons_option o (filter_map (value_of b) vs))
     go None f ih = (let i = ih.0 in omega (arith, i), ih.1)
     go (Some x) f ih = (let i = ih.0 in omega (arith, i), (f, ih.1))
+
+-- a value that is found is within its limits
+pub found_fits : (b : Binding Value) → AllByRecursion (λ p. FitsValue p.1) b → (v : ℕ) (x : Value) → Some x ≡ value_of b v → FitsValue x
+found_fits b all v x e = subst (λ o. IfSome o FitsValue) (sym e) (value_fits b all v)
 
 -- the values that were taken are a row, once none of the head's variables is left
 pub row_fits : (b : Binding Value) (vs : List ℕ) (xs : List Value) (k : ℕ) → AllByRecursion (λ p. FitsValue p.1) b → length vs ≤ most_values → length vs ≤ k

@@ -99,15 +99,15 @@ row_bound b terms row h f e = record {
 -- ---- the rows of an atom, one after another
 
 -- What is found from a row on is what is found with it, where it agrees, and then from the next row on.
-pub row_walked : (q : Query) (b : Binding Value) (atom : Atom) (rows : List (List Value)) (k : ℕ) (row : List Value) (lists : List (List Item)) (before after : List (List Value))
-    → k < length rows → row ≡ get_or rows k row
+pub row_walked : (q : Query) (b : Binding Value) (atom : Atom) (left rest : List (List Value)) (row : List Value) (lists : List (List Item)) (before after : List (List Value))
+    → left ≡ row ∷ rest
     → after ≡ before ++ cond (agrees_with b atom.terms row) (heads_from q (b ++ entries_of atom.terms row) lists) []
-    → after ++ heads_from q b (items_of atom (drop (k + 1) rows) ∷ lists) ≡ before ++ heads_from q b (items_of atom (drop k rows) ∷ lists)
-row_walked q b atom rows k row lists before after l at e =
-    ap (λ f. f ++ heads_from q b (items_of atom (drop (k + 1) rows) ∷ lists)) e
+    → after ++ heads_from q b (items_of atom rest ∷ lists) ≡ before ++ heads_from q b (items_of atom left ∷ lists)
+row_walked q b atom left rest row lists before after first e =
+    ap (λ f. f ++ heads_from q b (items_of atom rest ∷ lists)) e
     ∙ (append_assoc before _ _
-    ∙ ap (λ f. before ++ f) (sym (heads_row q b atom row (drop (k + 1) rows) lists)
-    ∙ ap (λ rs. heads_from q b (items_of atom rs ∷ lists)) (sym (drop-cons rows k row l ∙ ap₂ (λ r n. r ∷ drop n rows) (sym at) (let s : suc k ≡ k + 1 = omega arith in s)))))
+    ∙ ap (λ f. before ++ f) (sym (heads_row q b atom row rest lists)
+    ∙ ap (λ rs. heads_from q b (items_of atom rs ∷ lists)) (sym first)))
 
 -- a row that agrees: what is found with it comes
 pub goes_on : (q : Query) (b now new : Binding Value) (terms ts : List Term) (row xs : List Value) (lists : List (List Item)) (before after : List (List Value))
@@ -126,10 +126,10 @@ passes_over q b now terms ts row xs lists before after same is_terms is_row e fo
     let differs : agrees_with b terms row ≡ false = rw (← same, ← is_terms, ← is_row) e in
     found ∙ (sym (append-nil before) ∙ ap (λ t. before ++ cond t (heads_from q (b ++ entries_of terms row) lists) []) (sym differs))
 
-pub rows_walked : (q : Query) (b : Binding Value) (atom : Atom) (rows : List (List Value)) (k : ℕ) (lists : List (List Item)) (found : List (List Value))
-    → length rows ≤ k → found ++ heads_from q b (items_of atom (drop k rows) ∷ lists) ≡ found
-rows_walked q b atom rows k lists found l =
-    ap (λ rs. found ++ heads_from q b (items_of atom rs ∷ lists)) (drop_all k rows l) ∙ (ap (λ f. found ++ f) (heads_none q b lists) ∙ append-nil found)
+pub rows_walked : (q : Query) (b : Binding Value) (atom : Atom) (left : List (List Value)) (lists : List (List Item)) (found : List (List Value))
+    → left ≡ [] → found ++ heads_from q b (items_of atom left ∷ lists) ≡ found
+rows_walked q b atom left lists found none =
+    ap (λ rs. found ++ heads_from q b (items_of atom rs ∷ lists)) none ∙ (ap (λ f. found ++ f) (heads_none q b lists) ∙ append-nil found)
 
 -- what is bound is as before, once the entries behind are cut off
 pub cut_back : (old now after : List Entry) (before : ℕ) → before ≡ length old → binding_of now ≡ binding_of old → take (length now) (binding_of after) ≡ binding_of now → binding_of (take before after) ≡ binding_of old

@@ -4,15 +4,17 @@
 //!   [`Kind`]. Each of them has `clone`, whose copy is equal.
 //! - [`parse_value`] reads a value from its text, and [`field_value`] from a field of a column; [`numeral`] reads a
 //!   number without a sign; [`text_of`] writes a value's text.
-//! - [`compare`] tells whether an [`Op`] holds between two values. [`row_order`] is the order of rows, and
-//!   [`sorted_distinct`] puts rows into it, each once.
+//! - [`compare`] tells whether an [`Op`] holds between two values, and [`same_value`] whether they are equal.
+//!   [`row_order`] is the order of rows.
 //! - [`encode`] puts a row into bytes, whose number is its [`weight`], and [`decode`] reads it back.
+//! - [`ValueRef`] is a value where it lies, and [`EncodedRow`] a row in its encoding, which gives its values
+//!   ([`EncodedValues`]), compares, and has a rank to be sorted by, all without taking memory.
 //! - [`KeyRoom`] is lent room in which the key of a row is written; [`hash`] and [`bucket_of`] tell where a key is kept.
 //! - The functions of `laws.rt`, as [`encodings_tell_rows_apart`], do nothing: their contracts are laws for callers' proofs.
 //!
 //! The definitions are in `specs/`: `Values` (limits, order and texts, with the short names `RowValues` and `RowList`),
-//! `Order` (laws of the order), `Parsing`, `Comparing`, `Distinct`, `Encoding`, `Decoding`, `Hashing`, `RowText` (the text
-//! of rows) and `Ranks` (what rows are sorted by first).
+//! `Order` (laws of the order), `Parsing`, `Comparing`, `Distinct`, `Encoding`, `Decoding`, `Encoded`, `Hashing`, `RowText`
+//! (the text of rows) and `Ranks` (what rows are sorted by first).
 #![tactic(auto)]
 
 mod columns;

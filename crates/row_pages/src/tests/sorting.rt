@@ -80,11 +80,12 @@ fn long_rows(alloc: Global, lengths: &[usize]) -> Result<Rows, Fail> {
     Ok(rows)
 }
 
+// The rows of 65,530 letters are longer than a page.
 #[test]
 fn finds_repeats_in_different_pages(rt: HostRuntime) -> Result<(), Fail> {
-    let rows = long_rows(rt.alloc(), &[60_000, 65_000, 60_001, 60_000, 9, 65_000])?;
+    let rows = long_rows(rt.alloc(), &[60_000, 65_530, 60_001, 60_000, 9, 65_530])?;
     let sorted = sorted_distinct(rt.alloc(), rows)?;
-    let wanted = long_rows(rt.alloc(), &[60_000, 60_001, 65_000, 9])?;
+    let wanted = long_rows(rt.alloc(), &[60_000, 60_001, 65_530, 9])?;
     assert!(rt; are_same(&sorted, &wanted));
     Ok(())
 }

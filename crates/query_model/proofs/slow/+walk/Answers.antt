@@ -18,7 +18,7 @@ pub walk-requires : goal.walk-requires
 walk-requires t c =
     let was : AreBound (binding_of c.loop-row.entries.items) = rw c.loop-row.invariant.entries c.requires.bound in
     let bound : AreBound (binding_of c.bind_row.new.entries.items) =
-    rw (c.in_ok-bind_row.ensures.bound c.if-branch.true) (row_bound (binding_of c.loop-row.entries.items) c.as_slice-in-loop-row.result.now c.values.result.now was (rw c.values.ensures.value c.values.ensures.fits) (sym c.in_ok-bind_row.ensures.agrees ∙ c.if-branch.true)) in
+    rw (c.in_ok-bind_row.ensures.bound c.if-branch.true) (row_bound (binding_of c.loop-row.entries.items) c.as_slice-in-loop-row.result.now c.values.result was (rw c.values.ensures.value c.values.ensures.fits) (sym c.in_ok-bind_row.ensures.agrees ∙ c.if-branch.true)) in
     (let h = c.in-Some.ensures in omega arith, (c.requires.head, bound))
 
 pub loop-row-preserved : goal.loop-row-preserved
@@ -27,24 +27,24 @@ loop-row-preserved t c =
     let b : Binding Value = binding_of c.args.entries.now.items in
     let now : Binding Value = binding_of c.loop-row.entries.items in
     let atom = c.in-Some.atom.now in
-    let row : List Value = c.row-item.result in
+    let row : List Value = c.in-Some-row.row in
     let lists : List (List Item) = items c.in-Some.more_atoms.now c.in-Some-split_first.more_arrivals.now in
-    let more = λ (e : c.if-branch.found.items ≡ c.loop-row.found.items ++ cond (agrees_with b atom.terms row) (heads_from q (b ++ entries_of atom.terms row) lists) []).
-    row_walked q b atom c.as_slice-row-items.result.now c.loop-row.row-index row lists c.loop-row.found.items c.if-branch.found.items c.loop-row-test.true c.row-item.is e ∙ c.loop-row.invariant.found in
+    let more = λ (e : c.if-branch.found ≡ c.loop-row.found ++ cond (agrees_with b atom.terms row) (heads_from q (b ++ entries_of atom.terms row) lists) []).
+    row_walked q b atom c.loop-row.row-iterator c.next.new.self row lists c.loop-row.found c.if-branch.found c.in-Some-row.ensures.steps e ∙ c.loop-row.invariant.found in
     let back = λ (kept : take (length c.loop-row.entries.items) (binding_of c.if-branch.entries.items) ≡ now).
     ap binding_of c.truncate.ensures.items ∙ cut_back c.args.entries.now.items c.loop-row.entries.items c.if-branch.entries.items c.len-before.result (search rules) c.loop-row.invariant.entries kept in
     elim c.if-branch.branch [
       | then-branch+in_ok-walk w ↦ record {
-        found = more (goes_on q b now (binding_of c.bind_row.new.entries.items) atom.terms c.as_slice-in-loop-row.result.now row c.values.result.now lists c.loop-row.found.items c.if-branch.found.items
+        found = more (goes_on q b now (binding_of c.bind_row.new.entries.items) atom.terms c.as_slice-in-loop-row.result.now row c.values.result lists c.loop-row.found c.if-branch.found
             c.loop-row.invariant.entries c.as_slice-in-loop-row.ensures c.values.ensures.value
             (sym c.in_ok-bind_row.ensures.agrees ∙ w.if-branch.true) (c.in_ok-bind_row.ensures.bound w.if-branch.true)
-            (ap (λ v. v.items) w.found-is ∙ w.in_ok-walk.ensures.found));
+            (w.found-is ∙ w.in_ok-walk.ensures.found));
         entries = back (ap (λ v. take (length c.loop-row.entries.items) (binding_of v.items)) w.entries-is ∙ ap (take (length c.loop-row.entries.items)) w.in_ok-walk.ensures.entries ∙ c.in_ok-bind_row.ensures.kept);
       }
       | else-branch w ↦ record {
-        found = more (passes_over q b now atom.terms c.as_slice-in-loop-row.result.now row c.values.result.now lists c.loop-row.found.items c.if-branch.found.items
+        found = more (passes_over q b now atom.terms c.as_slice-in-loop-row.result.now row c.values.result lists c.loop-row.found c.if-branch.found
             c.loop-row.invariant.entries c.as_slice-in-loop-row.ensures c.values.ensures.value
-            (sym c.in_ok-bind_row.ensures.agrees ∙ w.if-branch.false) (ap (λ v. v.items) w.found-is));
+            (sym c.in_ok-bind_row.ensures.agrees ∙ w.if-branch.false) w.found-is);
         entries = back (ap (λ v. take (length c.loop-row.entries.items) (binding_of v.items)) w.entries-is ∙ c.in_ok-bind_row.ensures.kept);
       }
     ]

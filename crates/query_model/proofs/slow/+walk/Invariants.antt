@@ -1,4 +1,4 @@
-use Rattle.std.proofs.Common.{◌≡◌, ◌∷◌, ◌++◌, drop, length}
+use Rattle.std.proofs.Common.{◌≡◌, ◌∷◌, ◌++◌, length}
 use Rattle.query_core.specs.Answers.{items, items_of}
 use Rattle.query_model.specs.Walks.{binding_of, heads_from}
 use Rattle.query_model.proofs.slow.+walk.Given as goal
@@ -8,7 +8,7 @@ decreases-walk l = length l.atoms.now
 
 abbrev pub invariant-loop-row : goal.invariant-loop-row
 invariant-loop-row l = record {
-  found : l.found.items ++ heads_from l.query (binding_of l.fn.entries.items) (items_of l.atom (drop l.row-index l.row-items) ∷ items l.more_atoms l.more_arrivals)
-      ≡ l.fn.found.items ++ heads_from l.query (binding_of l.fn.entries.items) (items l.fn.atoms l.fn.arrivals);
+  found : l.found ++ heads_from l.query (binding_of l.fn.entries.items) (items_of l.atom l.row-iterator ∷ items l.more_atoms l.more_arrivals)
+      ≡ l.fn.found ++ heads_from l.query (binding_of l.fn.entries.items) (items l.fn.atoms l.fn.arrivals);
   entries : binding_of l.entries.items ≡ binding_of l.fn.entries.items;
 }
