@@ -1,8 +1,8 @@
 -- What some words spell, computed by the definition.
-use Rattle.std.proofs.Common.{◌≡◌, true, false, List, [], ◌∷◌, Some, None, refl, codes}
+use Rattle.std.proofs.Common.{◌≡◌, true, false, [], ◌∷◌, Some, None, refl, codes}
 use Rattle.clap.proofs.OnLiterals.{clap_on_literals}
 use Rattle.command_line.specs.Commands.{command_of, found_in, is_set_at, is_taken, number_at, optional_text_at, text_at}
-use Rattle.command_line.specs.Forms.{check_form, load_form, run_form}
+use Rattle.command_line.specs.Forms.{load_form, run_form}
 use Rattle.command_line.specs.declared.command.Command.TheVariants as command
 
 plain_run : command_of (codes "run" ∷ codes "c" ∷ codes "q" ∷ []) ≡ Some (command.Run (codes "c") (codes "q") None 4 false false)

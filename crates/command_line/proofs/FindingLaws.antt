@@ -1,5 +1,5 @@
 -- From what the reader's matches give for an argument to what the definitions say of it.
-use Rattle.std.proofs.Common.{◌≡◌, ◌∙◌, ◌<◌, ◌^◌, ◌&&◌, ℕ, Bool, true, false, cond, List, [], ◌∷◌, Option, Some, None, Result, Ok, Err, ap, refl, sym, true≢false, codes, is_some, option_map, unwrap_or, nat_lt, ltb-true, lt-ltb}
+use Rattle.std.proofs.Common.{◌≡◌, ◌∙◌, ◌^◌, ◌&&◌, ℕ, Bool, true, false, cond, [], ◌∷◌, Option, Some, None, Result, Ok, Err, ap, refl, sym, codes, option_map, unwrap_or, nat_lt, ltb-true, lt-ltb}
 use Rattle.std.proofs.lemmas.Slice.Eq.{bytes_eq-Decides}
 use Rattle.std.specs.Borrow.{Bor}
 use Rattle.std.specs.Char.{digit_value}
@@ -7,7 +7,7 @@ use Rattle.std.specs.List.{list_all}
 use Rattle.std.specs.Str.{bytes_eq}
 use Rattle.std.specs.Str.Parse.{AllDigits, IsNumeral, ParsesBool, ParsesUnsigned, digits_value, without_leading_plus}
 use Rattle.clap.specs.ValueTests.{is_numeral}
-use Rattle.clap.specs.Words.{ReadsOne, first_of, first_value, one_of, one_text, rows_of}
+use Rattle.clap.specs.Words.{ReadsOne, first_value, one_of, one_text, rows_of}
 use Rattle.clap.specs.declared.parser.matches.Found.{Found}
 use Rattle.clap.proofs.WalkLemmas.{both, first_value-rows, one_text-rows}
 use Rattle.med_prelude.specs.Texts.{Bytes}

@@ -1,5 +1,5 @@
 -- From the first word to the form by which the words are read.
-use Rattle.std.proofs.Common.{◌≡◌, ◌∙◌, true, false, Bool, ℕ, List, [], ◌∷◌, Option, Some, None, Result, ap, sym, subst, refl, codes, nat_eq, cond, slice_get, option_map}
+use Rattle.std.proofs.Common.{◌≡◌, ◌∙◌, true, false, Bool, List, [], ◌∷◌, Option, Some, None, Result, ap, sym, subst, refl, codes, nat_eq, slice_get, option_map}
 use Rattle.std.proofs.lemmas.Option.{same_Some}
 use Rattle.std.specs.Borrow.{Bor}
 use Rattle.std.specs.Cmp.Lexicographic.{pointwise}

@@ -1,5 +1,5 @@
 -- From the reader's clauses to whether it takes the words, and what it finds in them.
-use Rattle.std.proofs.Common.{◌≡◌, ◌∙◌, true, false, ℕ, List, [], ◌∷◌, length, ◌==◌, ap, refl, inl, inr, ne_eqb, arith}
+use Rattle.std.proofs.Common.{◌≡◌, ◌∙◌, true, false, List, [], ◌∷◌, length, ◌==◌, ap, refl, inl, inr, ne_eqb, arith}
 use Rattle.clap.specs.Words.{App, HasKind, IsAmong, Kinds, fault_of, kind_of, matches_of}
 use Rattle.clap.specs.declared.error.Error.{Error}
 use Rattle.clap.specs.declared.error.kind.ErrorKind.{ErrorKind}

@@ -1,4 +1,4 @@
-use Rattle.std.proofs.Common.{rules, ◌≡◌, ◌∙◌, true, false, Some, ap, map, ℕ, List, codes, slice_get}
+use Rattle.std.proofs.Common.{rules, ◌≡◌, true, false, Some, map, ℕ, List, codes, slice_get}
 use Rattle.std.specs.Borrow.{Bor}
 use Rattle.command_line.proofs.NamingLaws.{gives_check, gives_load, gives_run, is_word, no_name, no_word}
 use Rattle.command_line.proofs.reading.read_command.Goals as goal
