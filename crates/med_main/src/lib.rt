@@ -3,8 +3,9 @@
 //!
 //! [`exit_code`] is all that a program's `main` calls. It takes the words of the command line, makes shelf, opener, spill
 //! files, clock and output over the real machine (`real_outside`), makes the one call `med_top::mediate`, and gives its
-//! status as an exit code ([`code_of`]). The promises of the program are that call's contract; this crate adds none but
-//! that the exit code is the status's number.
+//! status as an exit code ([`code_of`]). The call tells the user of each status but want of memory, which is told here.
+//! The promises of the program are that call's contract; this crate adds none but that the exit code is the status's
+//! number.
 #![tactic(auto)]
 
 ghost use Rattle.std.specs.Prelude.{◌≡◌};
@@ -13,6 +14,7 @@ ghost use Rattle.med_base.specs.Statuses.{status_code};
 
 use med_base::{NoGate, Sink, Status};
 use med_top::mediate;
+use out_text::write_fault;
 use real_outside::{FileOpener, FileShelf, FileSpills, RealClock, StdSink, spill_folder};
 use std::alloc::AllocError;
 use std::os::unix::fs::FileExt;
@@ -86,5 +88,9 @@ pub fn exit_code<R: Threads + Sync + AllocGlobal + Env + Files + Clock + Print, 
 where
     R::File: Send + FileExt,
 {
-    code_of(run(rt, err))
+    let status = run(rt, err);
+    if status == Status::NoMemory {
+        let _ = write_fault(rt.alloc(), &status, err);
+    }
+    code_of(status)
 }

@@ -1,12 +1,13 @@
 -- From the end of a run to what holds at the call's status.
-use Rattle.std.proofs.Common.{◌≡◌, List, [], ◌∷◌, Option, Some, None, Err, IfSome, ap, refl}
+use Rattle.std.proofs.Common.{◌≡◌, ℕ, List, [], ◌∷◌, Option, Some, None, Err, IfSome, ◌∙◌, ap, sym, subst, refl, inl, inr}
 use Rattle.std.specs.List.{AllByRecursion}
 use Rattle.med_base.specs.declared.status.Status.{Status}
 use Rattle.med_base.specs.declared.status.Status.TheVariants as status
-use Rattle.med_prelude.specs.Texts.{Bytes}
+use Rattle.med_prelude.specs.Texts.{Bytes, ToldBytes}
 use Rattle.tuple_core.specs.declared.value.Value.{Value}
 use Rattle.tuple_core.specs.Values.{RowList}
-use Rattle.med_top.specs.Command.{command_of, names_of}
+use Rattle.med_top.specs.Command.{AsksNoRun, names_of, run_of}
+use Rattle.med_top.specs.Telling.{EndsTelling, Tells}
 use Rattle.med_top.specs.Loading.{AsksSome, FailsToLoad, IfShelfFails}
 use Rattle.query_core.specs.Answers.{answer_text}
 use Rattle.query_core.specs.declared.query.Query.{Query}
@@ -63,12 +64,12 @@ module _ {S M : Type 0} (call : Call S M) (task : Task)
   finished rows run.Stalled ends e h = rw (h.0) (refl, record { task = task; accepts = accepts; members = members; ends_so = (e, h.1) })
 
 -- the two names are those of the command
-pub names_asked : (catalogue query : Bytes) (words : List Bytes) (asked : Change (List Bytes)) → command_of words ≡ Some (catalogue, query)
+pub names_asked : (catalogue query : Bytes) (words : List Bytes) (asked : Change (List Bytes)) → run_of words ≡ Some (catalogue, query)
     → AsksSome (catalogue ∷ query ∷ []) asked → AsksSome (names_of words) asked
 names_asked catalogue query words asked command (n, e) = (n, rw command e)
 
 -- from a load that gave nothing to run to what holds at its status
-pub load_failed : {S M : Type 0} (call : Call S M) (catalogue query : Bytes) (failed : Status) → RunsNothing call → command_of call.words ≡ Some (catalogue, query)
+pub load_failed : {S M : Type 0} (call : Call S M) (catalogue query : Bytes) (failed : Status) → RunsNothing call → run_of call.words ≡ Some (catalogue, query)
     → FailsToLoad (call.texts catalogue) (call.texts query) failed → IfShelfFails catalogue query call.shelf_faults call.shelf_asked (Err failed) → HoldsAt call failed
 load_failed call catalogue query status.NoMemory nothing command h fails = tt
 load_failed call catalogue query (status.ShelfFault file) nothing command h fails = (nothing, (fails.0, (catalogue, query, command, (fails.1, h))))
@@ -85,3 +86,36 @@ load_failed call catalogue query (status.SpillFull file need limit) nothing comm
 load_failed call catalogue query (status.Differs file kept found) nothing command h fails = absurd h
 load_failed call catalogue query (status.Stalled rounds) nothing command h fails = absurd h
 load_failed call catalogue query status.OutFault nothing command h fails = absurd h
+
+-- the names that are handed on are those that the words ask for
+pub asked_names : (words : List Bytes) (catalogue query first second : Bytes) → run_of words ≡ Some (catalogue, query) → first ≡ catalogue → second ≡ query
+    → run_of words ≡ Some (first, second)
+asked_names words catalogue query first second asks same alike = rw (same, alike) asks
+
+-- from words that ask for no run that is built to what holds at their status
+pub no_run : {S M : Type 0} (call : Call S M) (failed : Status) → RunsNothing call → AsksNoRun call.words failed → HoldsAt call failed
+no_run call status.NoMemory nothing asks = tt
+no_run call status.Usage nothing asks = (nothing, asks)
+no_run call (status.NotBuilt why) nothing asks = rw (asks.0) (nothing, asks.1)
+no_run call status.Done nothing asks = absurd asks
+no_run call (status.ShelfFault file) nothing asks = absurd asks
+no_run call (status.CatalogueRefused why relation item) nothing asks = absurd asks
+no_run call (status.QueryRefused why at) nothing asks = absurd asks
+no_run call (status.PlanRefused why part item) nothing asks = absurd asks
+no_run call (status.Starved group) nothing asks = absurd asks
+no_run call (status.RuleError rule) nothing asks = absurd asks
+no_run call (status.SpillFault file) nothing asks = absurd asks
+no_run call (status.SpillFull file need limit) nothing asks = absurd asks
+no_run call (status.Differs file kept found) nothing asks = absurd asks
+no_run call (status.Stalled rounds) nothing asks = absurd asks
+no_run call status.OutFault nothing asks = absurd asks
+
+-- what held before the status was told holds after it
+pub holds_told : {S M : Type 0} (call : Call S M) (written : Change ToldBytes) (faults : Change ℕ) (old new : Status) → EndsTelling written faults old new → HoldsAt call old → HoldsAt call new
+holds_told call written faults old new (inl (same, told)) holds = subst (HoldsAt call) (sym same) holds
+holds_told call written faults old new (inr memory) holds = rw memory tt
+
+-- a status other than want of memory is the one that was told
+pub same_told : (written : Change ToldBytes) (faults : Change ℕ) (old new : Status) → EndsTelling written faults old new → (new ≡ status.NoMemory → ⊥) → (old ≡ status.NoMemory → ⊥) × Tells written faults new
+same_told written faults old new (inl (same, told)) other = ((λ memory. other (same ∙ memory)), told)
+same_told written faults old new (inr memory) other = absurd (other memory)

@@ -6,4 +6,5 @@ pub mod Outcomes
 pub mod Taking
 pub mod Targets
 pub mod Tasks
+pub mod Telling
 pub mod Limits

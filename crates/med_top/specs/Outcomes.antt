@@ -14,7 +14,8 @@ use Rattle.tuple_core.specs.Values.{RowList}
 use Rattle.query_core.specs.Answers.{answer_text}
 use Rattle.query_core.specs.declared.query.Query.{Query}
 use Rattle.med_top.specs.Limits.{idle_limit}
-use Rattle.med_top.specs.Command.{command_of}
+use Rattle.command_line.specs.Commands.{command_of}
+use Rattle.med_top.specs.Command.{AsksUnbuilt, run_of}
 use Rattle.med_top.specs.Loading.{AfterCatalogue, AsksUpTo, FailsToLoad, Loads}
 use Rattle.med_top.specs.Atoms.{AreAllMembers, all_arrivals}
 use Rattle.med_top.specs.Members.{Change, HasEnded, HasFailed, HasStalled, StopsAt}
@@ -37,11 +38,11 @@ pub record Call (S M : Type 0) : Type 1 where
   pub out_faults : Change ℕ
   pub members : List (MemberEnd S)
 
--- the words name a catalogue and a query, which ask for this to be done
+-- the words ask for a run over a catalogue and a query, which ask for this to be done
 pub record Accepts (words : List Bytes) (texts : Bytes → ToldBytes) (task : Task) : Type 0 where
   pub catalogue : Bytes
   pub query : Bytes
-  pub command : command_of words ≡ Some (catalogue, query)
+  pub command : run_of words ≡ Some (catalogue, query)
   pub loads : Loads (texts catalogue) (texts query) (Ok task)
 
 -- nothing was run: there is no member, and the sink has what it had
@@ -71,9 +72,9 @@ WritesPrefix call task = AllByRecursion HasEnded call.members
     × Rose call.out_faults.old call.out_faults.new
     × (text : Bytes) × IsAnswer call task text × (n : ℕ) × (call.written.new ≡ told_with call.written.old (take n text))
 
--- the call has the words of a command, of which this holds
+-- the words ask for a run over these texts, of which this holds
 abbrev pub IfCommand : {S M : Type 0} → Call S M → (Bytes → Bytes → Type 0) → Type 0
-IfCommand call holds = (catalogue : Bytes) × (query : Bytes) × (command_of call.words ≡ Some (catalogue, query)) × holds catalogue query
+IfCommand call holds = (catalogue : Bytes) × (query : Bytes) × (run_of call.words ≡ Some (catalogue, query)) × holds catalogue query
 
 -- The shelf failed at that text. It was asked for the names up to that text's; the catalogue is accepted before the query is fetched.
 abbrev pub ShelfFailed : {S M : Type 0} → Call S M → ShelfFile → Type 0
@@ -97,13 +98,14 @@ EndsSilently call stops = RunsAtoms call (λ task. StopsAt call.members stops ×
 -- what isn't built yet, by its number
 abbrev pub IsNotBuilt : {S M : Type 0} → Call S M → ℕ → Type 0
 IsNotBuilt call why =
-    MatchBool (why == 1) (RunsNothing call × (command_of call.words ≡ None))
+    MatchBool (why == 1) (RunsNothing call × AsksUnbuilt call.words)
     (MatchBool (why == 4) (RunsNothing call × IfQuery call (λ relations text. AsksMirrors relations text)) ⊥)
 
 -- What holds at each status. Want of memory may come anywhere, and the statuses that are ⊥ never come.
 abbrev pub HoldsAt : {S M : Type 0} → Call S M → Status → Type 0
 HoldsAt call status.Done = RunsAtoms call (WritesAnswer call)
 HoldsAt call status.NoMemory = ⊤
+HoldsAt call status.Usage = RunsNothing call × (command_of call.words ≡ None)
 HoldsAt call (status.ShelfFault file) = RunsNothing call × ShelfFailed call file
 HoldsAt call (status.CatalogueRefused why relation item) = RunsNothing call × CatalogueIsRefused call why relation item
 HoldsAt call (status.QueryRefused why at) = RunsNothing call × IfQuery call (λ relations text. RefusesQuery relations text why at)
@@ -111,7 +113,6 @@ HoldsAt call (status.Starved group) = EndsSilently call (HasFailed call.opener_f
 HoldsAt call (status.Stalled rounds) = (rounds ≡ idle_limit) × EndsSilently call (HasStalled call.source)
 HoldsAt call status.OutFault = RunsAtoms call (WritesPrefix call)
 HoldsAt call (status.NotBuilt why) = IsNotBuilt call why
-HoldsAt call status.Usage = ⊥
 HoldsAt call (status.PlanRefused why part item) = ⊥
 HoldsAt call (status.RuleError rule) = ⊥
 HoldsAt call (status.SpillFault file) = ⊥

@@ -1,22 +1,45 @@
-//! The words of a command.
+//! What the words of a command line ask for.
 
 ghost use Rattle.std.specs.Prelude.{◌≡◌, option_map};
-ghost use Rattle.med_top.specs.Command.{command_of};
+ghost use Rattle.med_top.specs.Command.{AsksAs, names_in};
 
+use command_line::{Command, read_command};
+use med_base::Status;
+use med_prelude::{ReadFault, Text};
+use std::alloc::Global;
 use tuple_core::Words;
 
-/// The words `run CATALOGUE QUERY`, if they are: the names of the two texts.
-pub fn run_command(words: &Words) -> Option<(&str, &str)>
-    ensures { option_map (λ names. (names.0.now, names.1.now)) result ≡ command_of words.now }
+/// The names of the texts that a run is over.
+#[derive(Drop)]
+pub struct RunNames {
+    pub catalogue: Text,
+    pub query: Text,
+}
+
+/// The names of the texts that the words ask to be run, or the status that the call ends with.
+pub fn run_names(alloc: Global, words: &Words) -> Result<RunNames, Status>
+    ensures { AsksAs words.now result }
 {
-    match words.as_slice() {
-        [command, catalogue, query] => {
-            if command.as_str() == "run" {
-                Some((catalogue.as_str(), query.as_str()))
-            } else {
-                None
-            }
-        }
+    match read_command(alloc, words.as_slice()) {
+        Ok(command) => built(command).ok_or(Status::NotBuilt { why: 1 }),
+        Err(ReadFault::Broken(_)) => Err(Status::Usage),
+        Err(ReadFault::NoMemory) => Err(Status::NoMemory),
+    }
+}
+
+/// The names of a command that is built: a run without plan, report and journal.
+fn built(command: Command) -> Option<RunNames>
+    ensures { option_map (λ names. (names.catalogue, names.query)) result ≡ names_in command }
+{
+    match command {
+        Command::Run {
+            catalogue,
+            query,
+            plan: None,
+            threads: _,
+            report: false,
+            journal: false,
+        } => Some(RunNames { catalogue, query }),
         _ => None,
     }
 }

@@ -5,10 +5,10 @@
 //!
 //! In the order in which they are called: `command` takes the words apart; `load` fetches the two texts, `task` reads them, and
 //! `target` says what is read for each atom; `atoms`, `groups`, `member` and `taking` read the sources, from all atoms down to
-//! the rows of one source; `finish` answers and writes.
+//! the rows of one source; `finish` answers and writes; `telling` tells the user how the call ended.
 //!
 //! The definitions are in `specs/`: `Outcomes` says what holds at each status, over `Loading`, `Tasks` and `Targets` (what was
-//! asked for), `Atoms`, `Members` and `Taking` (what came), `Command` and `Limits`.
+//! asked for), `Atoms`, `Members` and `Taking` (what came), `Command`, `Telling` and `Limits`.
 #![tactic(auto)]
 
 mod atoms;
@@ -22,6 +22,7 @@ mod outcome;
 mod taking;
 mod target;
 mod task;
+mod telling;
 
 pub use csv_wrap::{MemberEnd, Members};
 pub use med_base::{Files, Status};

@@ -2,11 +2,12 @@
 
 mod members;
 mod queries;
+mod words;
 
 use crate::{IDLE_LIMIT, Outcome, mediate};
 use med_base::{
     GroupName, MemOpener, MemShelf, MemSink, MemSource, MemSpill, MemSpills, MemberFault,
-    MemberState, NoGate, Script, ScriptClock, ShelfFile, Site, Status, Stored, Turn,
+    MemberState, NoGate, Script, ScriptClock, Site, Status, Stored, Turn,
 };
 use std::alloc::{AllocError, Global};
 use std::process::Abort;
@@ -81,7 +82,7 @@ fn sink(alloc: Global) -> MemSink {
     MemSink::new(alloc, usize::MAX, Vec::new(alloc))
 }
 
-/// Calls the mediator with a shelf that fails as told.
+/// Calls the mediator with a shelf and sinks that fail as told.
 fn call<R: Threads + Sync>(
     rt: &R,
     alloc: Global,
@@ -89,12 +90,12 @@ fn call<R: Threads + Sync>(
     mut shelf: MemShelf,
     sites: &[Csv<'_>],
     out: &mut MemSink,
+    err: &mut MemSink,
 ) -> Result<Outcome<MemSource, MemSpill>, AllocError> {
     let words = words_of(alloc, words)?;
     let mut opener = opener(alloc, sites)?;
     let mut spills = MemSpills::new(alloc, Vec::new(alloc), Vec::new(alloc));
     let mut clock = ScriptClock::new(Vec::new(alloc));
-    let mut err = sink(alloc);
     let outcome = mediate(
         rt,
         alloc,
@@ -105,7 +106,7 @@ fn call<R: Threads + Sync>(
         &mut clock,
         &NoGate,
         out,
-        &mut err,
+        err,
     );
     Ok(outcome)
 }
@@ -119,7 +120,8 @@ fn run<R: Threads + Sync>(
     out: &mut MemSink,
 ) -> Result<Outcome<MemSource, MemSpill>, AllocError> {
     let shelf = shelf(alloc, texts, Vec::new(alloc))?;
-    call(rt, alloc, &["run", "cat", "q"], shelf, sites, out)
+    let mut err = sink(alloc);
+    call(rt, alloc, &["run", "cat", "q"], shelf, sites, out, &mut err)
 }
 
 #[test]
@@ -158,42 +160,6 @@ fn texts_are_refused(rt: HostRuntime) -> Result<(), Fail> {
         assert_eq!(rt; outcome.status, status, "{catalogue:?} {query:?}");
         assert!(rt; outcome.members.is_empty());
         assert!(rt; out.bytes().is_empty());
-    }
-    Ok(())
-}
-
-fn assert_no_command<R: Threads + Sync + Abort>(
-    rt: &R,
-    alloc: Global,
-    words: &[&str],
-) -> Result<(), AllocError> {
-    let mut out = sink(alloc);
-    let shelf = shelf(alloc, (CATALOGUE, QUERY), Vec::new(alloc))?;
-    let outcome = call(rt, alloc, words, shelf, &[], &mut out)?;
-    assert_eq!(rt; outcome.status, Status::NotBuilt { why: 1 });
-    Ok(())
-}
-
-#[test]
-fn other_words_are_no_command(rt: HostRuntime) -> Result<(), Fail> {
-    let alloc = rt.alloc();
-    assert_no_command(&rt, alloc, &[])?;
-    assert_no_command(&rt, alloc, &["run", "cat"])?;
-    assert_no_command(&rt, alloc, &["walk", "cat", "q"])?;
-    assert_no_command(&rt, alloc, &["run", "cat", "q", "plan"])?;
-    Ok(())
-}
-
-#[test]
-fn shelf_that_fails_is_told(rt: HostRuntime) -> Result<(), Fail> {
-    let alloc = rt.alloc();
-    for (fetch, file) in [(0, ShelfFile::Catalogue), (1, ShelfFile::Query)] {
-        let mut failing = Vec::new(alloc);
-        failing.push(fetch)?;
-        let mut out = sink(alloc);
-        let shelf = shelf(alloc, (CATALOGUE, QUERY), failing)?;
-        let outcome = call(&rt, alloc, &["run", "cat", "q"], shelf, &[], &mut out)?;
-        assert_eq!(rt; outcome.status, Status::ShelfFault { file });
     }
     Ok(())
 }

@@ -1,5 +1,7 @@
 //! Texts written to a sink in memory, with expected bytes by hand.
 
+mod faults;
+
 ghost use Rattle.std.specs.Prelude.{IfOk};
 ghost use Rattle.tuple_core.specs.Values.{FitsRow, FitsValue};
 

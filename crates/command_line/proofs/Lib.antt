@@ -1,0 +1,5 @@
+mod Examples
+pub mod FindingLaws
+pub mod FormLaws
+pub mod NamingLaws
+pub mod ReadingLaws
