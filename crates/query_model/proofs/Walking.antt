@@ -1,9 +1,8 @@
 -- A walk by nested choice: where it ends, how it goes on, and that it stops where the rows don't agree.
-use Rattle.std.proofs.Common.{◌≡◌, ℕ, ◌+◌, ◌<◌, Bool, true, false, cond, ◌&&◌, List, [], ◌∷◌, ◌++◌, map, flat_map, length, drop, take, refl, sym, ap, ap₂, ◌∙◌, append_assoc, append-nil, get_or, suc, ◌≤◌, arith, Result, Ok, Err, IfOk}
+use Rattle.std.proofs.Common.{◌≡◌, ℕ, Bool, true, false, cond, ◌&&◌, List, [], ◌∷◌, ◌++◌, map, flat_map, length, take, refl, sym, ap, ap₂, ◌∙◌, append_assoc, append-nil, arith, Result, Ok, Err, IfOk}
 use mathlib.Core.Path.{fun_ext}
-use Rattle.std.proofs.Math.Seq.{drop-cons}
 use Rattle.std.proofs.lemmas.Bool.{and_parts}
-use Rattle.std.proofs.lemmas.List.{drop_all, length-map, take-map}
+use Rattle.std.proofs.lemmas.List.{length-map, take-map}
 use Rattle.std.specs.List.{filter_map, AllByRecursion}
 use Rattle.answer_theory.specs.Bindings.{Binding, consistent, first_entries}
 use Rattle.answer_theory.specs.Solutions.{only, chosen_rows, combinations}

@@ -1,5 +1,5 @@
 -- Pages that gain bytes keep what lies in them.
-use Rattle.std.proofs.Common.{◌≡◌, ◌≢◌, ◌<◌, ◌≤◌, ◌+◌, ◌-◌, ◌++◌, ℕ, suc, Bool, true, false, ◌==◌, List, [], ◌∷◌, length, get_or, set, take, drop, map, refl, sym, ap, ap₂, subst, inl, inr, Result, Ok, Err, OnOk, OnErr, ◌∙◌, arith, append-nil, append_assoc, length-append}
+use Rattle.std.proofs.Common.{◌≡◌, ◌≢◌, ◌<◌, ◌≤◌, ◌+◌, ◌-◌, ◌++◌, ℕ, suc, List, [], ◌∷◌, length, get_or, set, take, drop, map, refl, sym, ap, ap₂, subst, inl, inr, Result, Ok, Err, OnOk, OnErr, ◌∙◌, arith, append-nil, append_assoc, length-append}
 use Rattle.std.specs.List.{All}
 use Rattle.std.proofs.lemmas.Bool.{cases_lt, cases_order}
 use Rattle.std.proofs.lemmas.List.{get_or-map, get_or-set_same, take_more, get_or-set_other, get_or_append_left, get_or_default, get_or_past, length-set, length-drop, drop-append-le, take-append-le, map-append}
@@ -119,6 +119,6 @@ chosen_more pages old spots after kept indices i spot view chosen within inside 
     ap (map (piece_at pages)) more
     ∙ map-append (piece_at pages) spots (spot ∷ [])
     ∙ ap₂ (λ xs x. xs ++ x ∷ []) chosen
-        (sym (ap (λ xs. get_or xs (get_or indices i 0) []) (sym view) ∙ get_or-map (piece_at pages) kept (get_or indices i 0) spot [] inside ∙ ap (piece_at pages) (sym is)))
+    (sym (ap (λ xs. get_or xs (get_or indices i 0) []) (sym view) ∙ get_or-map (piece_at pages) kept (get_or indices i 0) spot [] inside ∙ ap (piece_at pages) (sym is)))
     ∙ sym (map-append (λ index. get_or old index []) (take i indices) (get_or indices i 0 ∷ []))
     ∙ sym (ap (map (λ index. get_or old index [])) (take_more indices i 0 within))

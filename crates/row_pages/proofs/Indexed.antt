@@ -1,12 +1,12 @@
 -- A sorted index of rows tells the rows in their order, each once.
-use Rattle.std.proofs.Common.{◌≡◌, ◌+◌, ◌<◌, Bool, true, false, List, [], ◌∷◌, ◌++◌, length, map, get_or, slice_get, Option, Some, IfOk, Result, Ok, Err, ℕ, take, drop, cond, refl, sym, ap, ap₂, subst, ◌∙◌, arith, append_assoc, All, Contains}
+use Rattle.std.proofs.Common.{◌≡◌, ◌+◌, ◌<◌, Bool, true, false, List, [], ◌∷◌, ◌++◌, length, map, get_or, slice_get, Some, IfOk, Result, Ok, Err, ℕ, take, drop, cond, refl, sym, ap, ap₂, subst, ◌∙◌, arith, append_assoc, All, Contains}
 use Rattle.std.specs.List.{AllByRecursion, dedup, dedup_from}
 use Rattle.std.specs.List.Sorted.{IsPermutation, IsSorted}
-use Rattle.std.specs.Ordering.{eq_by_cmp, is_eq, is_lt, nat_cmp, ordering_then}
+use Rattle.std.specs.Ordering.{is_eq, is_lt, nat_cmp, ordering_then}
 use Rattle.std.specs.declared.cmp.Ordering.{Ordering}
 use Rattle.std.proofs.lemmas.List.{get_or-map, length-map, map-append, take-append-drop, take_more}
 use Rattle.std.proofs.lemmas.List.Elements.{All-from_recursion, All-push, All-same, recursion_from_All}
-use Rattle.std.proofs.lemmas.Option.{get_or_from_slice_get, slice_get-get_or, slice_get_within}
+use Rattle.std.proofs.lemmas.Option.{get_or_from_slice_get, slice_get-get_or}
 use Rattle.std.proofs.lemmas.List.Kept.{Contains-dedup, Contains-from_dedup, IsStrictlySortedBy-dedup}
 use Rattle.std.proofs.lemmas.List.Sorted.{All-permutation, Contains-permutation, IsPermutation-map, IsPermutation-sym}
 use Rattle.med_prelude.specs.Texts.{Bytes}
@@ -15,7 +15,7 @@ use Rattle.row_pages.specs.declared.sorting.Entry.{Entry}
 use Rattle.tuple_core.proofs.Ranks.{cut_alike, cut_ranks_first}
 use Rattle.tuple_core.specs.Distinct.{AreSortedDistinct}
 use Rattle.tuple_core.specs.Order.{row_eq, rows_decided, rows_equiv, rows_tie, rows_total}
-use Rattle.tuple_core.specs.Ranks.{CutsAlike, FirstTextBegins, TextBegins, cut_row, row_rank}
+use Rattle.tuple_core.specs.Ranks.{CutsAlike, FirstTextBegins, TextBegins}
 use Rattle.tuple_core.specs.Values.{RowList, RowValues, row_cmp}
 use Rattle.tuple_core.specs.declared.value.Value.{Value}
 use Rattle.tuple_core.specs.declared.value.Value.TheVariants as value

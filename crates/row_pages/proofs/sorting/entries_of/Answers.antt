@@ -1,6 +1,5 @@
-use Rattle.std.proofs.Common.{◌≡◌, ◌<◌, ◌∷◌, ◌++◌, [], get_or, length, rules, arith}
+use Rattle.std.proofs.Common.{◌≡◌, ◌<◌, ◌∷◌, ◌++◌, [], length, rules, arith}
 use Rattle.row_pages.proofs.Indexed.{each_more, row_at_index, rows_more}
-use Rattle.row_pages.specs.Sorting.{IsEntry}
 use Rattle.row_pages.specs.declared.sorting.Entry.{Entry}
 use Rattle.row_pages.proofs.sorting.entries_of.Goals as goal
 

@@ -1,4 +1,4 @@
-use Rattle.std.proofs.Common.{◌≡◌, take, ap, subst, ◌∙◌, arith}
+use Rattle.std.proofs.Common.{◌≡◌, take, subst, arith}
 use Rattle.row_pages.proofs.Indexed.{both_begin}
 use Rattle.row_pages.proofs.sorting.shared_front.Goals as goal
 

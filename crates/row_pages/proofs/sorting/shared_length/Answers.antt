@@ -1,4 +1,4 @@
-use Rattle.std.proofs.Common.{◌≡◌, ◌<◌, [], get_or, length, sym, subst, arith, below_more}
+use Rattle.std.proofs.Common.{[], get_or, sym, subst, arith, below_more}
 use Rattle.tuple_core.specs.Ranks.{FirstTextBegins}
 use Rattle.row_pages.proofs.Indexed.{row_at_index, shared_cuts, shorter_begins, uncut}
 use Rattle.row_pages.proofs.sorting.shared_length.Goals as goal

@@ -1,7 +1,7 @@
 use Rattle.std.proofs.Common.{◌≡◌, ◌<◌, [], All, get_or, length, map, sym, ap, subst, ◌∙◌}
 use Rattle.std.specs.List.{dedup}
 use Rattle.std.proofs.lemmas.List.Filters.{dedup_is}
-use Rattle.row_pages.proofs.Indexed.{AreTold, if_ok, indices_inside, rows_at, told}
+use Rattle.row_pages.proofs.Indexed.{if_ok, indices_inside, rows_at, told}
 use Rattle.row_pages.specs.Sorting.{entry_eq}
 use Rattle.row_pages.specs.declared.sorting.Entry.{Entry}
 use Rattle.tuple_core.specs.Distinct.{AreSortedDistinct}

@@ -1,4 +1,4 @@
-use Rattle.std.proofs.Common.{◌≡◌, ◌<◌, ◌∷◌, ◌+◌, None, Some, drop, ap, sym, ◌∙◌, length, arith, slice_get, get_or, []}
+use Rattle.std.proofs.Common.{◌≡◌, ◌<◌, None, ap, sym, ◌∙◌, length, arith, slice_get, []}
 use Rattle.std.proofs.lemmas.Option.{slice_get-get_or}
 use Rattle.row_pages.proofs.Encodings.{first_left}
 use Rattle.row_pages.proofs.rows.RowsLeftIterator.next.Goals as goal
