@@ -1,8 +1,8 @@
 -- One more position that is looked at for the greedy next one.
-use Rattle.std.proofs.Common.{◌≡◌, ◌≢◌, ℕ, ◌+◌, ◌<◌, ◌≤◌, ◌⊎◌, Bool, true, false, cond, not, ltb, eqb, Option, Some, None, List, length, get_or, sym, ◌∙◌, ap, subst, refl, inl, inr, ⊎_elim, arith}
+use Rattle.std.proofs.Common.{◌≡◌, ℕ, ◌+◌, ◌<◌, ◌≤◌, ◌⊎◌, Bool, true, false, cond, ltb, Option, Some, None, List, length, get_or, sym, ◌∙◌, ap, subst, refl, inl, inr, arith}
 use Rattle.std.proofs.lemmas.Bool.{both_ways, cases_eq, cases_order, ltb-true, ltb-false, false≢true, true≢false}
 use Rattle.std.proofs.lemmas.Option.{slice_get-get_or, get_or_from_slice_get, slice_get_within}
-use Rattle.std.specs.Prelude.{MatchOption, slice_get, bit_and}
+use Rattle.std.specs.Prelude.{MatchOption, slice_get}
 use Rattle.least_order.specs.declared.item.Item.{Item}
 use Rattle.least_order.specs.Greedy.{IsTakenBefore, IsGreedyNext}
 use Rattle.least_order.specs.Items.{touches}
@@ -52,9 +52,9 @@ same_item items position item other a b = sym (get_or_from_slice_get items posit
 
 no_more : (count count' position position' : ℕ) → count ≤ count' → position < position' → (count < count') ⊎ ((count ≡ count') × (position < position'))
 no_more count count' position position' bound before = elim (cases_order count count') [
-    inl same ↦ inr (same, before)
+  | inl same ↦ inr (same, before)
   | inr apart ↦ elim apart [ inl less ↦ inl less | inr more ↦ absurd (omega (arith, more, bound)) ]
-  ]
+]
 
 pub skip_greedy : (items : List Item) (placed count : ℕ) (best : Option ℕ) → is_in placed count ≡ true
     → IsGreedySoFar items placed count best → IsGreedySoFar items placed (count + 1) best
@@ -65,9 +65,9 @@ skip_greedy items placed count (Some position) here so_far = record {
   within = let w : position < count = so_far.within in omega (arith, w);
   left = so_far.left;
   best = λ position' other below is left apart. elim (cases_eq position' count) [
-      inl same ↦ absurd (both_ways (is_in placed count) (subst (λ (p : ℕ). is_in placed p ≡ false) same left) here)
+    | inl same ↦ absurd (both_ways (is_in placed count) (subst (λ (p : ℕ). is_in placed p ≡ false) same left) here)
     | inr past ↦ so_far.best position' other (omega arith) is left apart
-    ];
+  ];
 }
 
 pub first_greedy : (items : List Item) (placed count : ℕ) (d : Item) → count < length items → is_in placed count ≡ false
@@ -86,21 +86,21 @@ pub better_greedy : (items : List Item) (placed count vars position : ℕ) (d : 
 better_greedy items placed count vars position d within here is_vars so_far h =
     let first : get_or items position d ≡ so_far.item = get_or_from_slice_get items position so_far.item d so_far.is in
     let wins = better_yes (touches (get_or items count d) (members items placed)) (touches so_far.item (members items placed)) (get_or items count d).count so_far.item.count
-      (sym (test_is vars (members items placed) (get_or items count d) so_far.item is_vars)
-       ∙ ap (λ (x : Item). is_better_than vars (get_or items count d) x) (sym first) ∙ h) in
+    (sym (test_is vars (members items placed) (get_or items count d) so_far.item is_vars)
+    ∙ ap (λ (x : Item). is_better_than vars (get_or items count d) x) (sym first) ∙ h) in
     record {
       item = get_or items count d;
       is = slice_get-get_or items count d within;
       within = omega arith;
       left = here;
       best = λ position' other below is left apart. elim (cases_eq position' position) [
-          inl same ↦ elim wins [
-              inl share ↦ inl (share.0, subst (λ (x : Item). touches x (members items placed) ≡ false) (same_item items position so_far.item other so_far.is (subst (λ (p : ℕ). slice_get items p ≡ Some other) same is)) share.1)
-            | inr less ↦ inr (subst (λ (x : Item). (touches (get_or items count d) (members items placed) ≡ touches x (members items placed)) × (((get_or items count d).count < x.count) ⊎ (((get_or items count d).count ≡ x.count) × (count < position'))))
-                (same_item items position so_far.item other so_far.is (subst (λ (p : ℕ). slice_get items p ≡ Some other) same is)) (less.0, inl less.1))
-            ]
+        | inl same ↦ elim wins [
+          | inl share ↦ inl (share.0, subst (λ (x : Item). touches x (members items placed) ≡ false) (same_item items position so_far.item other so_far.is (subst (λ (p : ℕ). slice_get items p ≡ Some other) same is)) share.1)
+          | inr less ↦ inr (subst (λ (x : Item). (touches (get_or items count d) (members items placed) ≡ touches x (members items placed)) × (((get_or items count d).count < x.count) ⊎ (((get_or items count d).count ≡ x.count) × (count < position'))))
+              (same_item items position so_far.item other so_far.is (subst (λ (p : ℕ). slice_get items p ≡ Some other) same is)) (less.0, inl less.1))
+        ]
         | inr past ↦ before_all _ _ _ _ _ _ count position position' wins (so_far.best position' other (omega arith) is left past)
-        ];
+      ];
     }
 
 pub keep_greedy : (items : List Item) (placed count vars position : ℕ) (d : Item) → count < length items
@@ -110,23 +110,23 @@ keep_greedy items placed count vars position d within is_vars so_far h =
     let first : get_or items position d ≡ so_far.item = get_or_from_slice_get items position so_far.item d so_far.is in
     let below_count : position < count = so_far.within in
     let loses = better_no (touches (get_or items count d) (members items placed)) (touches so_far.item (members items placed)) (get_or items count d).count so_far.item.count
-      (sym (test_is vars (members items placed) (get_or items count d) so_far.item is_vars)
-       ∙ ap (λ (x : Item). is_better_than vars (get_or items count d) x) (sym first) ∙ h) in
+    (sym (test_is vars (members items placed) (get_or items count d) so_far.item is_vars)
+    ∙ ap (λ (x : Item). is_better_than vars (get_or items count d) x) (sym first) ∙ h) in
     record {
       item = so_far.item;
       is = so_far.is;
       within = omega (arith, below_count);
       left = so_far.left;
       best = λ position' other below is left apart. elim (cases_eq position' count) [
-          inl same ↦
+        | inl same ↦
             let here : get_or items count d ≡ other = get_or_from_slice_get items count other d (subst (λ (p : ℕ). slice_get items p ≡ Some other) same is) in
             subst (λ (x : Item). IsTakenBefore (members items placed) position so_far.item position' x) here
-              (elim loses [
-                inl share ↦ inl share
+            (elim loses [
+              | inl share ↦ inl share
               | inr alike ↦ inr (alike.0, no_more so_far.item.count (get_or items count d).count position position' alike.1 (omega (arith, below_count, same)))
-              ])
+            ])
         | inr past ↦ so_far.best position' other (omega arith) is left apart
-        ];
+      ];
     }
 
 -- all positions were looked at
@@ -138,6 +138,6 @@ all_greedy items placed count (Some position) above within so_far = record {
   is = so_far.is;
   left = so_far.left;
   best = λ position' other is left apart.
-    let inside : position' < length items = slice_get_within items position' other is in
-    so_far.best position' other (omega (arith, inside)) is left apart;
+      let inside : position' < length items = slice_get_within items position' other is in
+      so_far.best position' other (omega (arith, inside)) is left apart;
 }

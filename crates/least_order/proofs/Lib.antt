@@ -6,5 +6,6 @@ pub mod Members
 pub mod MergeSteps
 pub mod Merges
 pub mod OrderSteps
+pub mod PartLaws
 pub mod Paths
 pub mod SetLaws

@@ -1,15 +1,15 @@
 -- Parts kept as one item each say of their items what is asked: whether they share a variable, and the greatest count.
-use Rattle.std.proofs.Common.{◌≡◌, ◌≢◌, ℕ, ◌+◌, ◌*◌, ◌^◌, ◌<◌, ◌≤◌, Bool, true, false, cond, not, ◌&&◌, ◌||◌, eqb, max, min, List, [], ◌∷◌, ◌++◌, length, sym, ◌∙◌, ap, subst, refl, inl, inr, arith, append_assoc, map}
-use Rattle.std.proofs.lemmas.Bool.{eqb-true, eq-eqb, ne_eqb, cases_Bool, cases_eq, eqb-false}
+use Rattle.std.proofs.Common.{◌≡◌, ◌≢◌, ℕ, ◌*◌, Bool, true, false, cond, not, ◌||◌, eqb, max, min, List, [], ◌∷◌, ◌++◌, sym, ◌∙◌, ap, refl, inl, inr, arith, map}
+use Rattle.std.proofs.lemmas.Bool.{eq-eqb, ne_eqb, cases_eq}
 use Rattle.std.proofs.lemmas.Nat.{and_comm}
-use Rattle.std.proofs.lemmas.Nat.Bits.{bit_at-zero, bit_at_or, bit_at_and, same_from_bits, bit_at-lt}
+use Rattle.std.proofs.lemmas.Nat.Bits.{bit_at-zero, bit_at_or, bit_at_and, same_from_bits}
 use Rattle.std.specs.Int.{bit_at}
-use Rattle.std.specs.List.{filter, flat_map, fold, list_any}
+use Rattle.std.specs.List.{filter, flat_map, fold}
 use Rattle.std.specs.Prelude.{bit_or, bit_and}
 use Rattle.least_order.specs.declared.item.Item.{Item}
 use Rattle.least_order.specs.Items.{shares, touches}
 use Rattle.least_order.specs.Merging.{joined, joined_vars, merged_parts, product_of_counts}
-use Rattle.least_order.specs.Sizes.{greatest_count, parts_of, product_of, greatest_size}
+use Rattle.least_order.specs.Sizes.{greatest_count, parts_of, product_of}
 
 -- a part as one item
 abbrev pub whole : List Item → Item
@@ -61,18 +61,18 @@ or_zero_right a b e = same_from_bits _ _ (λ i.
 -- a joined number isn't 0 where one of the two isn't
 or_some : (a b : ℕ) → not (eqb (bit_or a b) 0) ≡ (not (eqb a 0) || not (eqb b 0))
 or_some a b = elim (cases_eq a 0) [
-    inl none ↦ elim (cases_eq b 0) [
-        inl none' ↦
-          let e : bit_or a b ≡ 0 = ap (λ (n : ℕ). bit_or n b) none ∙ ap (λ (n : ℕ). bit_or 0 n) none' ∙ or_zero 0 in
-          rw (eq-eqb _ _ e, eq-eqb _ _ none, eq-eqb _ _ none') refl
-      | inr some' ↦
-          let e : bit_or a b ≢ 0 = (λ z. some' (or_zero_right a b z)) in
-          rw (ne_eqb _ _ e, eq-eqb _ _ none, ne_eqb _ _ some') refl
-      ]
+  | inl none ↦ elim (cases_eq b 0) [
+    | inl none' ↦
+        let e : bit_or a b ≡ 0 = ap (λ (n : ℕ). bit_or n b) none ∙ ap (λ (n : ℕ). bit_or 0 n) none' ∙ or_zero 0 in
+        rw (eq-eqb _ _ e, eq-eqb _ _ none, eq-eqb _ _ none') refl
+    | inr some' ↦
+        let e : bit_or a b ≢ 0 = (λ z. some' (or_zero_right a b z)) in
+        rw (ne_eqb _ _ e, eq-eqb _ _ none, ne_eqb _ _ some') refl
+  ]
   | inr some ↦
       let e : bit_or a b ≢ 0 = (λ z. some (or_zero_left a b z)) in
       rw (ne_eqb _ _ e, ne_eqb _ _ some) refl
-  ]
+]
 
 -- an item shares a variable with a part where it does with one of its items
 pub touches-whole : (item : Item) (vars : ℕ) (part : List Item) → vars ≡ joined_vars part
@@ -147,9 +147,9 @@ pub merged-whole : (item : Item) (items : List Item) → merged_parts item (map 
 merged-whole item items =
     let parts : List (List Item) = parts_of items in
     let apart : filter (λ (part : Item). not (shares part item)) (map whole parts) ≡ map whole (filter (λ (part : List Item). not (touches item part)) parts) =
-      filter-map (λ part. not (touches item part)) (λ part. not (shares part item)) (λ part. ap not (shares-whole item part)) parts in
+    filter-map (λ part. not (touches item part)) (λ part. not (shares part item)) (λ part. ap not (shares-whole item part)) parts in
     let touching : filter (λ (part : Item). shares part item) (map whole parts) ≡ map whole (filter (touches item) parts) =
-      filter-map (touches item) (λ part. shares part item) (shares-whole item) parts in
+    filter-map (touches item) (λ part. shares part item) (shares-whole item) parts in
     ap (λ (front : List Item). front ++ fold joined item (filter (λ (part : Item). shares part item) (map whole parts)) ∷ []) apart
     ∙ ap (λ (last : List Item). map whole (filter (λ (part : List Item). not (touches item part)) parts) ++ fold joined item last ∷ []) touching
     ∙ ap (λ (last : Item). map whole (filter (λ (part : List Item). not (touches item part)) parts) ++ last ∷ []) (folded item (filter (touches item) parts))

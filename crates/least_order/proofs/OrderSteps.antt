@@ -1,6 +1,6 @@
 -- One more position of an order.
-use Rattle.std.proofs.Common.{◌≡◌, ℕ, ◌+◌, ◌-◌, ◌^◌, ◌<◌, ◌≤◌, ◌==◌, ◌&&◌, not, Bool, true, false, eqb, ltb, List, [], ◌∷◌, length, get_or, drop, sym, ◌∙◌, ap, subst, refl, arith}
-use Rattle.std.proofs.lemmas.Bool.{lt-ltb, le-ltb, not_from_false, not_from_true}
+use Rattle.std.proofs.Common.{◌≡◌, ℕ, ◌+◌, ◌-◌, ◌^◌, ◌<◌, ◌≤◌, ◌&&◌, not, Bool, true, false, eqb, ltb, List, ◌∷◌, length, get_or, drop, sym, ◌∙◌, ap, arith}
+use Rattle.std.proofs.lemmas.Bool.{lt-ltb, le-ltb}
 use Rattle.std.proofs.lemmas.List.{drop_more, drop_all}
 use Rattle.least_order.specs.declared.item.Item.{Item}
 use Rattle.least_order.specs.Certificates.{step_of}
@@ -14,17 +14,17 @@ pub cost_more : (items : List Item) (order : Order) (placed cost index position 
     → cost + step_of items placed position + cost_from items (with_position placed position) (drop (index + 1) order) ≡ total
 cost_more items order placed cost index position total within is so_far =
     let rest : cost_from items placed (drop index order)
-        ≡ step_of items placed position + cost_from items (with_position placed position) (drop (index + 1) order) =
-      ap (λ (left : List ℕ). cost_from items placed left)
-        (drop_more order index 0 within ∙ ap (λ (p : ℕ). p ∷ drop (index + 1) order) (sym is)) in
+    ≡ step_of items placed position + cost_from items (with_position placed position) (drop (index + 1) order) =
+    ap (λ (left : List ℕ). cost_from items placed left)
+    (drop_more order index 0 within ∙ ap (λ (p : ℕ). p ∷ drop (index + 1) order) (sym is)) in
     omega (arith, rest, so_far)
 
 completes-front : (count placed index position : ℕ) (order : Order) → index < length order → position ≡ get_or order index 0
     → completes count placed (drop index order)
-      ≡ (ltb position count && (not (is_in placed position) && completes count (with_position placed position) (drop (index + 1) order)))
+    ≡ (ltb position count && (not (is_in placed position) && completes count (with_position placed position) (drop (index + 1) order)))
 completes-front count placed index position order within is =
     ap (λ (left : List ℕ). completes count placed left)
-      (drop_more order index 0 within ∙ ap (λ (p : ℕ). p ∷ drop (index + 1) order) (sym is))
+    (drop_more order index 0 within ∙ ap (λ (p : ℕ). p ∷ drop (index + 1) order) (sym is))
 
 pub path_more : (count placed index position : ℕ) (order : Order) → index < length order → position ≡ get_or order index 0
     → position < count → is_in placed position ≡ false

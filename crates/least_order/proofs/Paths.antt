@@ -1,8 +1,7 @@
 -- Orders as paths from set to set: an order has each position once where it leads from no position to all of them.
-use Rattle.std.proofs.Common.{◌≡◌, ◌≢◌, ℕ, ◌+◌, ◌-◌, ◌^◌, ◌<◌, ◌≤◌, Bool, true, false, cond, not, ◌&&◌, ◌==◌, eqb, ltb, List, [], ◌∷◌, sym, ◌∙◌, ap, subst, refl, inl, inr, ⊎_elim, arith}
-use Rattle.std.proofs.lemmas.Bool.{eqb-true, eq-eqb, ne_eqb, ltb-true, lt-ltb, le-ltb, cases_eq, cases_lt, cases_Bool, and_parts, and_from, not-true, not_from_false, cond-true, cond-false, false≢true}
+use Rattle.std.proofs.Common.{◌≡◌, ℕ, ◌+◌, ◌-◌, ◌^◌, ◌<◌, Bool, true, false, cond, not, ◌&&◌, ◌==◌, eqb, ltb, [], ◌∷◌, sym, ◌∙◌, ap, subst, refl, inl, inr, arith}
+use Rattle.std.proofs.lemmas.Bool.{eqb-true, eq-eqb, ne_eqb, ltb-true, lt-ltb, le-ltb, cases_eq, cases_lt, and_parts, and_from, not-true, not_from_false, cond-true, cond-false}
 use Rattle.std.proofs.lemmas.List.Sums.{sum_by-cons}
-use Rattle.std.proofs.lemmas.Nat.{pow_pos}
 use Rattle.std.proofs.lemmas.Nat.Bits.{bit_at_ones, bit_at_ones_above, bit_at-zero, same_from_bits}
 use Rattle.std.specs.Int.{bit_at}
 use Rattle.std.specs.List.{count_by}
@@ -50,15 +49,15 @@ times-cons position first order = sum_by-cons (λ (placed : ℕ). cond (eqb plac
 
 bits_of_all : (count position : ℕ) → bit_at (2 ^ count - 1) position ≡ one_below count position
 bits_of_all count position = elim (cases_lt position count) [
-    inl below ↦ bit_at_ones count position below ∙ sym (cond-true _ 1 0 (lt-ltb position count below))
+  | inl below ↦ bit_at_ones count position below ∙ sym (cond-true _ 1 0 (lt-ltb position count below))
   | inr above ↦ bit_at_ones_above count position above ∙ sym (cond-false _ 1 0 (le-ltb position count above))
-  ]
+]
 
 -- the bit of a position, with another that wasn't in
 bit_with : (set first position : ℕ) → is_in set first ≡ false
     → bit_at (with_position set first) position ≡ step_bit first position + bit_at set position
 bit_with set first position left = elim (cases_eq first position) [
-    inl same ↦
+  | inl same ↦
       let is_one : bit_at (with_position set first) first ≡ 1 = eqb-true _ _ (in_with_same set first) in
       let was_zero : bit_at set first ≡ 0 = bit_outside set first left in
       let chosen : step_bit first position ≡ 1 = cond-true _ 1 0 (eq-eqb first position same) in
@@ -69,20 +68,20 @@ bit_with set first position left = elim (cases_eq first position) [
       let same : bit_at (with_position set first) position ≡ bit_at set position = bit_with_other set first position (λ e. apart (sym e)) in
       let chosen : step_bit first position ≡ 0 = cond-false _ 1 0 (ne_eqb first position apart) in
       omega (arith, chosen, same)
-  ]
+]
 
 counted : (count set : ℕ) (order : Order) → completes count set order ≡ true
     → (position : ℕ) → times position order + bit_at set position ≡ one_below count position
 counted count set [] h position =
     let e : bit_at set position ≡ one_below count position =
-      ap (λ s. bit_at s position) (eqb-true set (2 ^ count - 1) h) ∙ bits_of_all count position in
+    ap (λ s. bit_at s position) (eqb-true set (2 ^ count - 1) h) ∙ bits_of_all count position in
     omega (arith, e)
 counted count set (first ∷ order) h position =
     let part = completes-parts count set first order h in
     let after : times position order + bit_at (with_position set first) position ≡ one_below count position =
-      counted count (with_position set first) order part.rest position in
+    counted count (with_position set first) order part.rest position in
     let bit : bit_at (with_position set first) position ≡ step_bit first position + bit_at set position =
-      bit_with set first position part.left in
+    bit_with set first position part.left in
     let head : times position (first ∷ order) ≡ step_bit first position + times position order = times-cons position first order in
     omega (arith, after, bit, head)
 
@@ -98,27 +97,27 @@ completed : (count set : ℕ) (order : Order)
     → completes count set order ≡ true
 completed count set [] h = eq-eqb set (2 ^ count - 1)
     (same_from_bits set (2 ^ count - 1) (λ position.
-        let here : 0 + bit_at set position ≡ one_below count position = h position in
-        let there : bit_at (2 ^ count - 1) position ≡ one_below count position = bits_of_all count position in
-        omega (arith, here, there)))
+    let here : 0 + bit_at set position ≡ one_below count position = h position in
+    let there : bit_at (2 ^ count - 1) position ≡ one_below count position = bits_of_all count position in
+    omega (arith, here, there)))
 completed count set (first ∷ order) h =
     let at_first : times first (first ∷ order) + bit_at set first ≡ one_below count first = h first in
     let head : times first (first ∷ order) ≡ step_bit first first + times first order = times-cons first first order in
     let once : step_bit first first ≡ 1 = cond-true _ 1 0 (eq-eqb first first refl) in
     let within : first < count = elim (cases_lt first count) [
-        inl below ↦ below
+      | inl below ↦ below
       | inr above ↦
           let none : one_below count first ≡ 0 = cond-false _ 1 0 (le-ltb first count above) in
           absurd (omega (arith, at_first, head, once, none))
-      ] in
+    ] in
     let one : one_below count first ≡ 1 = cond-true _ 1 0 (lt-ltb first count within) in
     let zero_bit : bit_at set first ≡ 0 = omega (arith, at_first, head, once, one) in
     let left : is_in set first ≡ false = ne_eqb (bit_at set first) 1 (λ e. let z : bit_at set first ≡ 0 = zero_bit in omega (arith, z, e)) in
     completes-cons count set first order within left (completed count (with_position set first) order (λ position.
-        let before : times position (first ∷ order) + bit_at set position ≡ one_below count position = h position in
-        let bit : bit_at (with_position set first) position ≡ step_bit first position + bit_at set position = bit_with set first position left in
-        let head_here : times position (first ∷ order) ≡ step_bit first position + times position order = times-cons position first order in
-        omega (arith, before, bit, head_here)))
+    let before : times position (first ∷ order) + bit_at set position ≡ one_below count position = h position in
+    let bit : bit_at (with_position set first) position ≡ step_bit first position + bit_at set position = bit_with set first position left in
+    let head_here : times position (first ∷ order) ≡ step_bit first position + times position order = times-cons position first order in
+    omega (arith, before, bit, head_here)))
 
 -- an order that has each position once leads from none to all
 pub completes_from_order : (count : ℕ) (order : Order) → IsOrder count order → completes count 0 order ≡ true

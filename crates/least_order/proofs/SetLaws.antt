@@ -1,12 +1,11 @@
 -- Sets as numbers: what is in one with a position more, and which set has each position.
-use Rattle.std.proofs.Common.{◌≡◌, ◌≢◌, ℕ, ◌+◌, ◌-◌, ◌*◌, ◌^◌, ◌<◌, ◌≤◌, Bool, true, false, eqb, max, sym, ◌∙◌, ap, subst, refl, inl, inr, arith}
-use Rattle.std.proofs.lemmas.Bool.{eqb-true, eq-eqb, ne_eqb, eqb-false, cases_lt, cases_eq, false≢true, both_ways}
+use Rattle.std.proofs.Common.{◌≡◌, ◌≢◌, ℕ, ◌+◌, ◌-◌, ◌*◌, ◌^◌, ◌<◌, true, false, eqb, max, sym, ◌∙◌, ap, arith}
+use Rattle.std.proofs.lemmas.Bool.{eqb-true, eq-eqb, ne_eqb, eqb-false}
 use Rattle.std.proofs.lemmas.Nat.{or_disjoint, or_lt, pow_pos}
-use Rattle.std.proofs.lemmas.Nat.Bits.{bit_at-zero, bit_at-lt, bit_at_or, bit_at-pow_same, bit_at-pow_other, bit_at_ones, bit_at_above, and_pow, same_from_bits_below}
+use Rattle.std.proofs.lemmas.Nat.Bits.{bit_at-zero, bit_at-lt, bit_at_or, bit_at-pow_same, bit_at-pow_other, bit_at_ones, and_pow, same_from_bits_below}
 use Rattle.std.proofs.Math.Nat.{zero-mul}
 use Rattle.std.proofs.Math.Pow.{pow-lt}
 use Rattle.std.specs.Int.{bit_at}
-use Rattle.std.specs.Prelude.{bit_or, bit_and}
 use Rattle.least_order.specs.Sets.{is_in, with_position}
 use Rattle.least_order.specs.Search.{HasNoneLeft}
 
@@ -23,15 +22,15 @@ bit_outside set position out =
 pub in_with_same : (set position : ℕ) → is_in (with_position set position) position ≡ true
 in_with_same set position = eq-eqb _ _
     (bit_at_or set (2 ^ position) position
-     ∙ (let below : bit_at set position < 2 = bit_at-lt set position in
-        let one : bit_at (2 ^ position) position ≡ 1 = bit_at-pow_same position in
-        let m : max (bit_at set position) (bit_at (2 ^ position) position) ≡ 1 = omega (arith, below, one) in m))
+    ∙ (let below : bit_at set position < 2 = bit_at-lt set position in
+    let one : bit_at (2 ^ position) position ≡ 1 = bit_at-pow_same position in
+    let m : max (bit_at set position) (bit_at (2 ^ position) position) ≡ 1 = omega (arith, below, one) in m))
 
 pub bit_with_other : (set position other : ℕ) → other ≢ position → bit_at (with_position set position) other ≡ bit_at set other
 bit_with_other set position other apart =
     bit_at_or set (2 ^ position) other
     ∙ (let zero_there : bit_at (2 ^ position) other ≡ 0 = bit_at-pow_other position other apart in
-       let m : max (bit_at set other) (bit_at (2 ^ position) other) ≡ bit_at set other = omega (arith, zero_there) in m)
+    let m : max (bit_at set other) (bit_at (2 ^ position) other) ≡ bit_at set other = omega (arith, zero_there) in m)
 
 pub in_with_other : (set position other : ℕ) → other ≢ position → is_in (with_position set position) other ≡ is_in set other
 in_with_other set position other apart = ap (λ n. eqb n 1) (bit_with_other set position other apart)

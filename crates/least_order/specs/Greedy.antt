@@ -11,7 +11,7 @@ abbrev pub IsTakenBefore : List Item → ℕ → Item → ℕ → Item → Type 
 IsTakenBefore placed position item position' other =
     ((touches item placed ≡ true) × (touches other placed ≡ false))
     ⊎ ((touches item placed ≡ touches other placed)
-       × ((item.count < other.count) ⊎ ((item.count ≡ other.count) × (position < position'))))
+    × ((item.count < other.count) ⊎ ((item.count ≡ other.count) × (position < position'))))
 
 -- the position is left, and its item is taken before each other that is left
 pub record IsGreedyNext (items : List Item) (set position : ℕ) : Type 0 where

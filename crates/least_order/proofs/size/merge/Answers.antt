@@ -9,10 +9,10 @@ loop-index-preserved c =
     let none : Item = record { count = 0; vars = 0 } in
     let within : c.loop-index.index < length c.loop-index.parts = omega arith in
     elim c.if-shares_variable.branch [
-      then-shares_variable w ↦ rw (w.parts-is, w.merged-is, w.join-merged.ensures, w.kept-is)
-        (merges_shared c.args.item c.args.parts.now c.loop-index.parts c.loop-index.merged c.loop-index.kept c.loop-index.index none
+      | then-shares_variable w ↦ rw (w.parts-is, w.merged-is, w.join-merged.ensures, w.kept-is)
+          (merges_shared c.args.item c.args.parts.now c.loop-index.parts c.loop-index.merged c.loop-index.kept c.loop-index.index none
           c.loop-index.invariant within (sym c.shares_variable.ensures ∙ w.if-shares_variable.true))
-    | else-shares_variable w ↦ rw (w.parts-is, w.merged-is, w.kept-is)
-        (merges_apart c.args.item c.args.parts.now c.loop-index.parts c.loop-index.merged c.loop-index.kept c.loop-index.index none
+      | else-shares_variable w ↦ rw (w.parts-is, w.merged-is, w.kept-is)
+          (merges_apart c.args.item c.args.parts.now c.loop-index.parts c.loop-index.merged c.loop-index.kept c.loop-index.index none
           c.loop-index.invariant within (sym c.shares_variable.ensures ∙ w.if-shares_variable.false))
     ]
