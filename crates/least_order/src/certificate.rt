@@ -1,6 +1,6 @@
 //! An order of least cost with what shows that it is one, and the check of that.
 
-ghost use Rattle.std.specs.Prelude.{◌≡◌, ℕ, ◌+◌, ◌^◌, ◌<◌, ◌≤◌, ◌↔◌, false, IsTrue, length, slice_index};
+ghost use Rattle.std.specs.Prelude.{◌≡◌, ◌^◌, ◌<◌, ◌≤◌, ◌↔◌, IsTrue, length};
 ghost use Rattle.least_order.specs.Certificates.{IsBelowSteps, IsBelowStepsFrom, IsCertificate};
 ghost use Rattle.least_order.specs.Orders.{NoneCostsLess};
 
@@ -17,7 +17,7 @@ pub struct LeastOrder {
     pub order: Listed<u8>,
     /// The sum of the sizes of what is joined.
     pub cost: u128,
-    /// For each set of items, by its number, at least how much is left to pay once these are placed.
+    /// For each set of items, by its number, what is left to pay at least once these are placed: 2^n numbers for n items.
     pub rest: Listed<u128>,
 }
 
@@ -52,6 +52,7 @@ fn is_below_steps(items: &[Item], rest: &[u128]) -> bool
     true
 }
 
+/// The same of one set.
 fn is_below_steps_from(items: &[Item], rest: &[u128], set: ItemSet) -> bool
     requires few { length items.now ≤ MOST_ITEMS }
     requires len { length rest.now ≡ 2 ^ length items.now }

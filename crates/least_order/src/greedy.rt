@@ -1,6 +1,6 @@
 //! The greedy order: at each place the best of the items that are left.
 
-ghost use Rattle.std.specs.Prelude.{◌≡◌, ◌+◌, ◌^◌, ◌<◌, ◌≤◌, false, IfOk, length, MatchOption};
+ghost use Rattle.std.specs.Prelude.{◌≡◌, ◌≤◌, IfOk, length, MatchOption};
 ghost use Rattle.least_order.specs.Greedy.{IsGreedyNext, IsGreedyOrder};
 ghost use Rattle.least_order.specs.Merging.{is_better_than, joined_vars};
 ghost use Rattle.least_order.specs.Orders.{IsOrder, Order};
@@ -14,12 +14,15 @@ use std::alloc::{AllocError, Global};
 
 /// The greedy order of the items: the one of least count first, and then, of those that share a variable with the ones
 /// placed, or of all where none does, the one of least count. Of equal ones it takes the first.
+///
+/// The answer has the items' positions. An `Err` comes only where memory runs out.
 pub fn greedy_order(alloc: Global, items: &[Item]) -> Result<Listed<u8>, AllocError>
     requires { length items.now ≤ MOST_ITEMS }
     ensures order { IfOk result (λ order. IsOrder (length items.now) order) }
     ensures greedy { IfOk result (λ order. IsGreedyOrder items.now order) }
     // There is no other such order.
-    ensures only { IfOk result (λ order. (other : Order) → IsOrder (length items.now) other → IsGreedyOrder items.now other → order ≡ other) }
+    ensures only { IfOk result (λ order. (other : Order) → IsOrder (length items.now) other
+        → IsGreedyOrder items.now other → order ≡ other) }
 {
     let mut order = Listed::new(alloc);
     let mut placed = NO_ITEM;

@@ -1,6 +1,6 @@
 //! The first order of least cost, by the rest of each set of items.
 
-ghost use Rattle.std.specs.Prelude.{◌≡◌, ℕ, ◌+◌, ◌*◌, ◌^◌, ◌<◌, ◌≤◌, IfOk, length, MatchOption};
+ghost use Rattle.std.specs.Prelude.{◌≡◌, ◌^◌, ◌<◌, ◌≤◌, IfOk, length};
 ghost use Rattle.least_order.specs.Certificates.{IsCertificate};
 ghost use Rattle.least_order.specs.Orders.{IsOrder, NoneCostsLess, IsFirstAtCost, cost_of};
 ghost use Rattle.least_order.specs.Search.{AreLeast, IsBestSoFar, IsBounded, LeadsBest, lesser_of};
@@ -12,7 +12,9 @@ use crate::size::step;
 use med_prelude::Listed;
 use std::alloc::{AllocError, Global};
 
-/// The first of the orders that cost least, with its certificate.
+/// The first of the orders that cost least, as a list of positions, with the certificate of that.
+///
+/// For 8 items about a thousand sizes of sets are computed. An `Err` comes only where memory runs out.
 pub fn least_order(alloc: Global, items: &[Item]) -> Result<LeastOrder, AllocError>
     requires { length items.now ≤ MOST_ITEMS }
     ensures order { IfOk result (λ least. IsOrder (length items.now) least.order) }
@@ -32,9 +34,9 @@ pub fn least_order(alloc: Global, items: &[Item]) -> Result<LeastOrder, AllocErr
 
 /// An item to place next, and what is left to pay by it.
 #[derive(Clone, Copy)]
-pub struct Next {
-    pub position: usize,
-    pub cost: u128,
+struct Next {
+    position: usize,
+    cost: u128,
 }
 
 /// For each set of items the least that is left to pay, the largest sets first.

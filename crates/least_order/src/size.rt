@@ -1,8 +1,7 @@
 //! How many rows a join of some items is taken to have.
 
-ghost use Rattle.std.specs.Prelude.{◌≡◌, ◌+◌, ◌<◌, ◌≤◌, false, length, min, max, take, bit_or};
+ghost use Rattle.std.specs.Prelude.{◌≡◌, ◌+◌, ◌<◌, ◌≤◌, length, min, take};
 ghost use Rattle.least_order.specs.Certificates.{step_of};
-ghost use Rattle.least_order.specs.Sets.{is_in};
 ghost use Rattle.least_order.specs.Sizes.{greatest_size, size_of};
 ghost use Rattle.least_order.specs.Merging.{joined, merged_parts, product_of_counts};
 
@@ -63,6 +62,7 @@ fn merge(parts: &mut [Item], len: usize, item: Item) -> usize
     kept + 1
 }
 
+/// Two parts as one.
 fn join(part: &Item, other: &Item) -> Item
     ensures { result ≡ joined part.now other.now }
 {
@@ -72,6 +72,7 @@ fn join(part: &Item, other: &Item) -> Item
     }
 }
 
+/// The product of the parts' counts, cut off at the greatest size.
 fn capped_product(parts: &[Item]) -> u128
     ensures { result ≡ min greatest_size (product_of_counts parts.now) }
 {
