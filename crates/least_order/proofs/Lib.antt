@@ -1,0 +1,11 @@
+pub mod BestSteps
+pub mod Costs
+pub mod GreedyPaths
+pub mod GreedySteps
+pub mod Members
+pub mod MergeSteps
+pub mod Merges
+pub mod OrderSteps
+pub mod PartLaws
+pub mod Paths
+pub mod SetLaws
