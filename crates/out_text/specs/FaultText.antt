@@ -1,5 +1,5 @@
 -- What a user is told of a status.
-use Rattle.std.specs.Prelude.{ℕ, List, [], ◌∷◌, ◌++◌, codes}
+use Rattle.std.specs.Prelude.{List, [], ◌∷◌, ◌++◌, codes}
 use Rattle.std.specs.Fmt.{decimal}
 use Rattle.med_base.specs.declared.status.Part.{Part}
 use Rattle.med_base.specs.declared.status.Part.TheVariants as part

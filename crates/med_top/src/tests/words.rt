@@ -21,14 +21,16 @@ struct Case<'a> {
     out_failing: &'a [usize],
 }
 
-/// A run over texts that are accepted and a source with one row.
-const RUN: Case<'static> = Case {
-    words: &["run", "cat", "q"],
-    texts: (CATALOGUE, QUERY),
-    failing: &[],
-    source: Csv("a", "x\noslo\n", &[]),
-    out_failing: &[],
-};
+/// These words over texts that are accepted and a source with one row.
+fn asking<'a>(words: &'a [&'a str]) -> Case<'a> {
+    Case {
+        words,
+        texts: (CATALOGUE, QUERY),
+        failing: &[],
+        source: Csv("a", "x\noslo\n", &[]),
+        out_failing: &[],
+    }
+}
 
 /// Calls the mediator with a sink for messages, and compares how it ended and what it told.
 fn assert_tells<R: Threads + Sync + Abort>(
@@ -74,14 +76,7 @@ fn assert_words<R: Threads + Sync + Abort>(
     status: Status,
     text: &str,
 ) -> Result<(), AllocError> {
-    let case = Case {
-        words,
-        texts: RUN.texts,
-        failing: RUN.failing,
-        source: RUN.source,
-        out_failing: RUN.out_failing,
-    };
-    assert_told(rt, alloc, &case, status, text)
+    assert_told(rt, alloc, &asking(words), status, text)
 }
 
 #[test]
@@ -130,88 +125,119 @@ fn words_are_a_run_or_not_built_yet(rt: HostRuntime) -> Result<(), Fail> {
     Ok(())
 }
 
+/// What a fetch that fails tells.
+fn assert_cannot_read<R: Threads + Sync + Abort>(
+    rt: &R,
+    alloc: Global,
+    failing: &[usize],
+    file: ShelfFile,
+    text: &str,
+) -> Result<(), AllocError> {
+    let case = Case {
+        words: &["run", "cat", "q"],
+        texts: (CATALOGUE, QUERY),
+        failing,
+        source: Csv("a", "x\n", &[]),
+        out_failing: &[],
+    };
+    assert_told(rt, alloc, &case, Status::ShelfFault { file }, text)
+}
+
+/// What is told of a run over these texts and a source with this text and these turns.
+fn assert_run<R: Threads + Sync + Abort>(
+    rt: &R,
+    alloc: Global,
+    texts: (&str, &str),
+    source: Csv<'_>,
+    status: Status,
+    text: &str,
+) -> Result<(), AllocError> {
+    let case = Case {
+        words: &["run", "cat", "q"],
+        texts,
+        failing: &[],
+        source,
+        out_failing: &[],
+    };
+    assert_told(rt, alloc, &case, status, text)
+}
+
 #[test]
-fn each_end_is_told(rt: HostRuntime) -> Result<(), Fail> {
+fn refused_texts_are_told(rt: HostRuntime) -> Result<(), Fail> {
     let alloc = rt.alloc();
     let mirrors =
         "[[relation]]\nname = \"city\"\ncolumns = [\"x:text\"]\ngroups = [[\"a\", \"b\"]]";
-    let group = GroupName { atom: 1, group: 1 };
-    for (case, status, text) in [
-        (RUN, Status::Done, ""),
-        (
-            Case {
-                failing: &[0],
-                ..RUN
-            },
-            Status::ShelfFault {
-                file: ShelfFile::Catalogue,
-            },
-            "mediator: cannot read catalogue\n",
-        ),
-        (
-            Case {
-                failing: &[1],
-                ..RUN
-            },
-            Status::ShelfFault {
-                file: ShelfFile::Query,
-            },
-            "mediator: cannot read query\n",
-        ),
-        (
-            Case {
-                texts: ("", QUERY),
-                ..RUN
-            },
-            Status::CatalogueRefused {
-                why: 2,
-                relation: 0,
-                item: 0,
-            },
-            "mediator: catalogue refused 2 relation 0 item 0\n",
-        ),
-        (
-            Case {
-                texts: (CATALOGUE, "q(x) :- city(x)"),
-                ..RUN
-            },
-            Status::QueryRefused { why: 1, at: 15 },
-            "mediator: query refused 1 at 15\n",
-        ),
-        (
-            Case {
-                texts: (mirrors, QUERY),
-                ..RUN
-            },
-            Status::NotBuilt { why: 4 },
-            "mediator: not built yet 4\n",
-        ),
-        (
-            Case {
-                source: Csv("a", "y\n", &[]),
-                ..RUN
-            },
-            Status::Starved { group },
-            "mediator: starved a1.1\n",
-        ),
-        (
-            Case {
-                source: Csv("a", "x\n", &[Turn::NotYet]),
-                ..RUN
-            },
-            Status::Stalled { rounds: 100_000 },
-            "mediator: stalled 100000 rounds\n",
-        ),
-        (
-            Case {
-                out_failing: &[0],
-                ..RUN
-            },
-            Status::OutFault,
-            "mediator: output fault\n",
-        ),
-    ] {
-        assert_told(&rt, alloc, &case, status, text)?;
-    }
+    let refused = Status::CatalogueRefused {
+        why: 2,
+        relation: 0,
+        item: 0,
+    };
+    let line = "mediator: catalogue refused 2 relation 0 item 0\n";
+    let source = Csv("a", "x\n", &[]);
+    assert_run(&rt, alloc, ("", QUERY), source, refused, line)?;
+    let refused = Status::QueryRefused { why: 1, at: 15 };
+    let line = "mediator: query refused 1 at 15\n";
+    assert_run(
+        &rt,
+        alloc,
+        (CATALOGUE, "q(x) :- city(x)"),
+        source,
+        refused,
+        line,
+    )?;
+    let unbuilt = Status::NotBuilt { why: 4 };
+    assert_run(
+        &rt,
+        alloc,
+        (mirrors, QUERY),
+        source,
+        unbuilt,
+        "mediator: not built yet 4\n",
+    )?;
+    Ok(())
+}
+
+#[test]
+fn faults_are_told(rt: HostRuntime) -> Result<(), Fail> {
+    let alloc = rt.alloc();
+    let line = "mediator: cannot read catalogue\n";
+    assert_cannot_read(&rt, alloc, &[0], ShelfFile::Catalogue, line)?;
+    assert_cannot_read(
+        &rt,
+        alloc,
+        &[1],
+        ShelfFile::Query,
+        "mediator: cannot read query\n",
+    )?;
+    let starved = Status::Starved {
+        group: GroupName { atom: 1, group: 1 },
+    };
+    let texts = (CATALOGUE, QUERY);
+    let line = "mediator: starved a1.1\n";
+    assert_run(&rt, alloc, texts, Csv("a", "y\n", &[]), starved, line)?;
+    let stalled = Status::Stalled { rounds: 100_000 };
+    let line = "mediator: stalled 100000 rounds\n";
+    assert_run(
+        &rt,
+        alloc,
+        texts,
+        Csv("a", "x\n", &[Turn::NotYet]),
+        stalled,
+        line,
+    )?;
+    let case = Case {
+        words: &["run", "cat", "q"],
+        texts,
+        failing: &[],
+        source: Csv("a", "x\noslo\n", &[]),
+        out_failing: &[0],
+    };
+    assert_told(
+        &rt,
+        alloc,
+        &case,
+        Status::OutFault,
+        "mediator: output fault\n",
+    )?;
     Ok(())
 }
