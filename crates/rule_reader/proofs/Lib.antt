@@ -1,0 +1,13 @@
+pub mod NumberLaws
+pub mod NegationLaws
+pub mod KeywordLaws
+pub mod NamingLaws
+pub mod TokenLaws
+pub mod JunkLaws
+pub mod ReadingLaws
+pub mod Spelled
+pub mod Pieces
+pub mod Keeps
+pub mod Completions
+pub mod WholeRuns
+pub mod GrammarLaws
