@@ -9,8 +9,8 @@ use crate::groups::{RunEnd, read_groups};
 use crate::target::Target;
 use csv_wrap::Members;
 use med_base::Opener;
-use std::alloc::{AllocError, Global};
 use row_pages::Rows;
+use std::alloc::{AllocError, Global};
 
 /// The members of the atoms so far, the rows that came for each atom, and how the run stands.
 #[derive(Drop)]

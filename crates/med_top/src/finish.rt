@@ -10,8 +10,8 @@ use med_base::{Sink, SinkFault, Status};
 use out_text::write_rows;
 use query_core::{Arrivals, Query};
 use query_model::slow_heads;
-use std::alloc::{AllocError, Global};
 use row_pages::{Rows, sorted_distinct};
+use std::alloc::{AllocError, Global};
 
 /// The status that the end of a run comes to, which for one whose groups are settled is that of writing the answer.
 pub fn finish<W: Sink>(

@@ -7,8 +7,8 @@ ghost use Rattle.tuple_core.specs.Values.{RowList};
 
 use csv_wrap::{NextRow, Pulled, Wrapper};
 use med_base::{MemberFault, Source};
-use std::alloc::{AllocError, Global};
 use row_pages::Rows;
+use std::alloc::{AllocError, Global};
 
 /// So many pulls in a row that find nothing there end a run.
 pub const IDLE_LIMIT: u64 = 100_000;

@@ -19,10 +19,11 @@ written_more old mid new text rest after k done more is_after = record {
 -- behind what was written of a text, a prefix of its next piece
 pub prefix_more : (old mid new : ToldBytes) (front piece rest whole : Bytes) (k : ℕ) → mid ≡ told_with old front → new ≡ told_with mid (take k piece) → whole ≡ (front ++ piece) ++ rest
     → (n : ℕ) × (new ≡ told_with old (take n whole))
-prefix_more old mid new front piece rest whole k done more is =
-    (length front + min k (length piece),
-    more ∙ ap (λ told. told_with told (take k piece)) done ∙ grown_twice old front (take k piece)
-    ∙ ap (told_with old) (sym (ap (take (length front + min k (length piece))) (is ∙ append_assoc front piece rest) ∙ take-append-add front (piece ++ rest) (min k (length piece)) ∙ ap (λ x. front ++ x) (piece_front piece rest k))))
+prefix_more old mid new front piece rest whole k done more is = (
+  length front + min k (length piece),
+  more ∙ ap (λ told. told_with told (take k piece)) done ∙ grown_twice old front (take k piece)
+      ∙ ap (told_with old) (sym (ap (take (length front + min k (length piece))) (is ∙ append_assoc front piece rest) ∙ take-append-add front (piece ++ rest) (min k (length piece)) ∙ ap (λ x. front ++ x) (piece_front piece rest k))),
+)
   where
     piece_front : (piece rest : Bytes) (k : ℕ) → take (min k (length piece)) (piece ++ rest) ≡ take k piece
     piece_front piece rest k = take-append-le (min k (length piece)) piece rest (omega arith) ∙ take_min k piece

@@ -18,7 +18,11 @@ const PIECE: usize = 65_536;
 const GREATEST_GROWTH: usize = 3;
 
 /// Makes the record of a row in place, over a lent buffer.
-fn fill_record(fields: &mut ByteRecord, buffer: &mut Vec<u8>, row: &EncodedRow<'_>) -> Result<(), AllocError>
+fn fill_record(
+    fields: &mut ByteRecord,
+    buffer: &mut Vec<u8>,
+    row: &EncodedRow<'_>,
+) -> Result<(), AllocError>
     ensures { OnOk result (fields_of fields.new ≡ map value_text row.now) }
 {
     fields.clear();
@@ -32,7 +36,11 @@ fn fill_record(fields: &mut ByteRecord, buffer: &mut Vec<u8>, row: &EncodedRow<'
 
 /// The text of the rows from an index on, of so many as a piece has room for, and the index of the row behind them.
 /// Rows may have different numbers of values.
-pub fn piece_of_rows(alloc: Global, rows: &Rows, from: usize) -> Result<(Vec<u8>, usize), AllocError>
+pub fn piece_of_rows(
+    alloc: Global,
+    rows: &Rows,
+    from: usize,
+) -> Result<(Vec<u8>, usize), AllocError>
     requires { from < length rows.now }
     ensures goes { IfOk result (λ piece. (from < piece.1) × (piece.1 ≤ length rows.now)) }
     ensures text { IfOk result (λ piece. rows_text (take from rows.now) ++ piece.0.items ≡ rows_text (take piece.1 rows.now)) }

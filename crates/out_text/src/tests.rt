@@ -7,9 +7,9 @@ ghost use Rattle.tuple_core.specs.Values.{FitsRow, FitsValue};
 
 use super::*;
 use med_base::{MemSink, SinkFault};
+use row_pages::Rows;
 use std::alloc::{AllocError, Global};
 use std::test::Fail;
-use row_pages::Rows;
 use tuple_core::{Kind, Row, Value, parse_value};
 
 fn text(alloc: Global, text: &str) -> Result<Value, AllocError>
@@ -20,7 +20,11 @@ fn text(alloc: Global, text: &str) -> Result<Value, AllocError>
 
 fn mixed(alloc: Global) -> Result<Rows, AllocError> {
     let mut rows = Rows::new(alloc);
-    let first = vec![in alloc; text(alloc, "Inn, \"Old\"")?, Value::Int(-7), Value::Bool(true)]?;
+    let first = vec![in alloc;
+        text(alloc, "Inn, \"Old\"")?,
+        Value::Int(-7),
+        Value::Bool(true),
+    ]?;
     rows.push(alloc, &Row::new(first))?;
     rows.push(alloc, &Row::new(vec![in alloc; text(alloc, "")?]?))?;
     let third = vec![in alloc; text(alloc, "a\nb")?, Value::Int(0), Value::Bool(false)]?;
@@ -72,7 +76,10 @@ fn writes_in_pieces_of_64_kib_or_one_line(rt: HostRuntime) -> Result<(), Fail> {
         let wrote = write_rows(rt.alloc(), &rows, &mut sink);
         let written = sink.bytes().len();
         assert!(rt; matches!(wrote, Err(SinkFault::Failed)));
-        assert!(rt; least <= written && written <= most, "{written:?} of {size:?}");
+        assert!(rt;
+            least <= written && written <= most,
+            "{written:?} of {size:?}"
+        );
     }
     Ok(())
 }

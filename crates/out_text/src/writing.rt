@@ -9,8 +9,8 @@ ghost use Rattle.tuple_core.specs.RowText.{rows_text};
 use crate::output::write_all;
 use crate::row_text::piece_of_rows;
 use med_base::{Sink, SinkFault};
-use std::alloc::Global;
 use row_pages::Rows;
+use std::alloc::Global;
 
 /// Writes a line of CSV for each row, in pieces of at most 64 KiB, or of one line where that is longer. Where that fails,
 /// a prefix of the text is written.

@@ -14,4 +14,4 @@ returns-in_err-write_all-clause-err g c =
     let err = c.in_err-write_all.ensures.err in
     let more = err.1 ∙ ap (λ piece. told_with (g.W.Sink.written c.pieces.out) (take err.0 piece)) c.as_slice.ensures.value in
     on_any_error _ (prefix_more _ _ _ (rows_text (take c.pieces.next rows)) c.in_ok-text.text.items (rows_text (drop c.in_ok-text.after rows)) (rows_text rows) err.0 c.pieces.invariant.written more
-        (rows_text_split rows c.in_ok-text.after ∙ ap (λ text. text ++ rows_text (drop c.in_ok-text.after rows)) (sym c.in_ok-text.ensures.text)))
+    (rows_text_split rows c.in_ok-text.after ∙ ap (λ text. text ++ rows_text (drop c.in_ok-text.after rows)) (sym c.in_ok-text.ensures.text)))
