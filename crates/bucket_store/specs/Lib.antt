@@ -1,0 +1,5 @@
+pub mod Places
+pub mod Held
+pub mod Keys
+pub mod Chained
+pub mod Stored

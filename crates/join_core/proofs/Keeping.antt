@@ -1,0 +1,137 @@
+-- What a join keeps of its rows is kept.
+use Rattle.std.proofs.Common.{◌≡◌, ◌<◌, ◌≤◌, ◌+◌, ◌%◌, ◌++◌, ⊤, ℕ, zero, suc, List, [], ◌∷◌, length, get_or, set, All, Option, Some, None, inl, inr, refl, sym, ap, subst, ◌∙◌, arith, get_or_default}
+use Rattle.std.specs.List.{AllPairs}
+use Rattle.std.specs.Option.{MatchOption}
+use Rattle.std.proofs.lemmas.Nat.{mod_below}
+use Rattle.std.proofs.lemmas.Bool.{cases_eq, cases_lt, cases_order}
+use Rattle.std.proofs.lemmas.List.{get_or-set_other, get_or-set_same, length-set}
+use Rattle.std.proofs.lemmas.List.Elements.{All-push}
+use Rattle.std.proofs.lemmas.List.Quantifiers.{all_pairs_push}
+use Rattle.med_prelude.specs.Texts.{Bytes}
+use Rattle.tuple_core.specs.Hashing.{bucket_of, byte_hash}
+use Rattle.tuple_core.specs.Values.{RowValues}
+use Rattle.row_match.specs.Shapes.{Shape}
+use Rattle.row_match.specs.declared.shape.Side.{Side}
+use Rattle.row_match.specs.declared.shape.Side.TheVariants as side
+use Rattle.bucket_store.specs.Held.{ArePlaced, Held, HeldList, has_key, rows_in, with_row}
+use Rattle.bucket_store.specs.Places.{next_place}
+use Rattle.bucket_store.proofs.Places.{is_next}
+use Rattle.bucket_store.proofs.Keeping.{belong_more, placed_set}
+use Rattle.join_core.specs.Kept.{AreRising, IsHeld, IsJoin, IsProbing, IsSide, facing_rows}
+use Rattle.join_core.specs.Sides.{TwoSides, buckets_on, opposite, probing_of, with_buckets}
+use Rattle.join_core.specs.declared.probe.Probe.{Probe}
+use Rattle.join_core.proofs.Pointwise.{Faces}
+
+-- ---- a row comes
+
+pub held_older : (sd : Side) (shape : Shape) (next : ℕ) (held : Held) → IsHeld sd shape next held → IsHeld sd shape (next + 1) held
+held_older sd shape next held h = record { key_is = h.key_is; wide = h.wide; fits = h.fits; earlier = let l = h.earlier in omega arith }
+
+side_older : (sd : Side) (shape : Shape) (next : ℕ) (buckets : List HeldList) → IsSide sd shape next buckets → IsSide sd shape (next + 1) buckets
+side_older sd shape next buckets h = record { placed = h.placed; each = λ b l k d i. held_older sd shape next _ (h.each b l k d i); rising = h.rising }
+
+pub bucket_inside : (buckets : List HeldList) (key : Bytes) → ArePlaced buckets → bucket_of (length buckets) key < length buckets
+bucket_inside buckets key h = mod_below (byte_hash key) (length buckets) h.some
+
+side_more : (sd : Side) (shape : Shape) (next : ℕ) (buckets : List HeldList) (held : Held) → IsSide sd shape next buckets → IsHeld sd shape (next + 1) held → held.number ≡ next → IsSide sd shape (next + 1) (with_row buckets held)
+side_more sd shape next buckets held h new number = record {
+  placed = placed_set buckets bucket more h.placed (belong_more (length buckets) bucket (rows_in buckets bucket) held (h.placed.each bucket inside) refl);
+  each = λ b l. at_bucket (λ rows. All (IsHeld sd shape (next + 1)) rows) b
+      (All-push (IsHeld sd shape (next + 1)) (rows_in buckets bucket) held (λ k d i. held_older sd shape next _ (h.each bucket inside k d i)) new)
+      (λ k d i. held_older sd shape next _ (h.each b (there b l) k d i));
+  rising = λ b l. at_bucket AreRising b
+      (all_pairs_push (λ x y. x.number < y.number) (rows_in buckets bucket) held (h.rising bucket inside) (λ k d i. let e = (h.each bucket inside k d i).earlier in omega (arith, e, number)))
+      (h.rising b (there b l));
+}
+  where
+    bucket : ℕ
+    bucket = bucket_of (length buckets) held.key
+
+    more : HeldList
+    more = rows_in buckets bucket ++ held ∷ []
+
+    inside : bucket < length buckets
+    inside = bucket_inside buckets held.key h.placed
+
+    there : (b : ℕ) → b < length (set buckets bucket more) → b < length buckets
+    there b l = omega (arith, l, length-set buckets bucket more)
+
+    at_bucket : (P : HeldList → Type 0) (b : ℕ) → P more → P (rows_in buckets b) → P (rows_in (set buckets bucket more) b)
+    at_bucket P b p q = elim (cases_eq b bucket) [
+      | inl same ↦ subst (λ x. P (rows_in (set buckets bucket more) x)) (sym same) (subst P (sym (get_or-set_same buckets bucket more [] inside)) p)
+      | inr other ↦ subst P (sym (get_or-set_other buckets bucket b more [] other)) q
+    ]
+
+-- the probe of the row
+record Begins (sd : Side) (count next : ℕ) (key : Bytes) (row : RowValues) (p : Probe) : Type 0 where
+  side_is : p.side ≡ sd
+  number_is : p.number ≡ next
+  bucket_is : p.bucket ≡ bucket_of count key
+  row_is : p.row ≡ row
+  place_is : p.place ≡ 0
+  from_is : p.from ≡ 0
+
+-- ---- the probe and what faces it
+
+abbrev pub own_of : Bytes → Probe → Held
+own_of key p = record { key = key; row = p.row; number = p.number }
+
+pub side_on : (sd : Side) (shape : Shape) (sides : TwoSides) (next : ℕ) → IsSide side.Left shape next sides.left → IsSide side.Right shape next sides.right → IsSide sd shape next (buckets_on sd sides)
+side_on side.Left shape sides next l r = l
+side_on side.Right shape sides next l r = r
+
+many_on : (sd : Side) (sides : TwoSides) → length sides.left ≡ length sides.right → length (buckets_on (opposite sd) sides) ≡ length (buckets_on sd sides)
+many_on side.Left sides e = sym e
+many_on side.Right sides e = e
+
+pub faces : (shape : Shape) (sides : TwoSides) (next : ℕ) (key : Bytes) (p : Probe) → IsSide side.Left shape next sides.left → IsSide side.Right shape next sides.right → length sides.left ≡ length sides.right
+    → IsProbing shape sides next key p → Faces (buckets_on p.side sides) (buckets_on (opposite p.side) sides) (probing_of p) (own_of key p) p.place
+faces shape sides next key p l r many h = record {
+  mine_placed = mine.placed;
+  theirs_placed = theirs.placed;
+  many = many_on p.side sides many;
+  inside = inside;
+  mine_rising = mine.rising p.bucket inside;
+  theirs_rising = theirs.rising p.bucket (omega (arith, inside, many_on p.side sides many));
+  others = h.others;
+  last = h.own;
+  number_is = refl;
+  bucket_is = sym h.bucket_is;
+  behind = h.behind;
+  ahead = h.ahead;
+}
+  where
+    mine : IsSide p.side shape next (buckets_on p.side sides)
+    mine = side_on p.side shape sides next l r
+
+    theirs : IsSide (opposite p.side) shape next (buckets_on (opposite p.side) sides)
+    theirs = side_on (opposite p.side) shape sides next l r
+
+    inside : p.bucket < length (buckets_on p.side sides)
+    inside = subst (λ b. b < length (buckets_on p.side sides)) (sym h.bucket_is) (bucket_inside (buckets_on p.side sides) key mine.placed)
+
+-- the facing rows, in the words of the call that finds them
+pub facing_is : (shape : Shape) (sides : TwoSides) (next : ℕ) (key : Bytes) (p : Probe) → length sides.left ≡ length sides.right → IsProbing shape sides next key p
+    → bucket_of (length (buckets_on (opposite p.side) sides)) key ≡ p.bucket
+facing_is shape sides next key p many h = ap (λ n. bucket_of n key) (many_on p.side sides many) ∙ sym h.bucket_is
+
+-- the probe goes on behind the place where a match was found
+pub probing_on : (shape : Shape) (sides : TwoSides) (next : ℕ) (key : Bytes) (p after : Probe) (at : ℕ) (partner : Held) → IsProbing shape sides next key p
+    → AreRising (facing_rows sides p) → at < length (facing_rows sides p) → get_or (facing_rows sides p) at partner ≡ partner
+    → after ≡ record p { place = at + 1; from = partner.number + 1 } → IsProbing shape sides next key after
+probing_on shape sides next key p after at partner h rising inside is moved = subst (IsProbing shape sides next key) (sym moved) (record {
+  last = h.last;
+  key_is = h.key_is;
+  bucket_is = h.bucket_is;
+  others = h.others;
+  own = h.own;
+  behind = λ k d l i. elim (cases_order k at) [
+    | inl same ↦ omega (arith, ap (λ (x : Held). x.number) (ap (λ n. get_or (facing_rows sides p) n d) same ∙ here d))
+    | inr (inl below) ↦ (let r = rising k at d below inside in omega (arith, r, ap (λ (x : Held). x.number) (here d)))
+    | inr (inr above) ↦ absurd (omega (arith, l, above))
+  ];
+  ahead = λ k d l i. let r = rising at k d (omega (arith, l)) i in omega (arith, r, ap (λ (x : Held). x.number) (here d));
+})
+  where
+    here : (d : Held) → get_or (facing_rows sides p) at d ≡ partner
+    here d = get_or_default (facing_rows sides p) at d partner inside ∙ is

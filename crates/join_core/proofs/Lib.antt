@@ -1,0 +1,5 @@
+pub mod Flat
+pub mod Pointwise
+pub mod Stepping
+pub mod Arriving
+pub mod Keeping

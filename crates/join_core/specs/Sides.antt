@@ -1,0 +1,40 @@
+-- The rows of both sides that are in memory.
+use Rattle.std.specs.Prelude.{List, map, option_map, Option, Bool, ℕ}
+use Rattle.row_match.specs.Shapes.{Shape}
+use Rattle.row_match.specs.declared.shape.Side.{Side}
+use Rattle.row_match.specs.declared.shape.Side.TheVariants as side
+use Rattle.bucket_store.specs.Held.{HeldList}
+use Rattle.join_core.specs.State.{Joining, Probing, cursor_start, open_pile}
+use Rattle.join_core.specs.declared.probe.Probe.{Probe}
+
+pub record TwoSides : Type 0 where
+  pub left : List HeldList
+  pub right : List HeldList
+
+abbrev pub opposite : Side → Side
+opposite side.Left = side.Right
+opposite side.Right = side.Left
+
+abbrev pub buckets_on : Side → TwoSides → List HeldList
+buckets_on side.Left sides = sides.left
+buckets_on side.Right sides = sides.right
+
+abbrev pub with_buckets : Side → TwoSides → List HeldList → TwoSides
+with_buckets side.Left sides buckets = record sides { left = buckets }
+with_buckets side.Right sides buckets = record sides { right = buckets }
+
+abbrev pub probing_of : Probe → Probing
+probing_of p = record { side = p.side; number = p.number; bucket = p.bucket; from = p.from }
+
+-- a join whose rows are all in memory
+abbrev pub joining_of : Shape → TwoSides → Bool → Bool → ℕ → Option Probe → Joining
+joining_of shape sides left_ended right_ended next probe = record {
+  shape = shape;
+  left = map open_pile sides.left;
+  right = map open_pile sides.right;
+  left_ended = left_ended;
+  right_ended = right_ended;
+  next = next;
+  probe = option_map probing_of probe;
+  cursor = cursor_start
+}

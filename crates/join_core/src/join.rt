@@ -1,0 +1,171 @@
+//! The join, and its calls.
+
+ghost use Rattle.std.specs.Prelude.{◌≡◌, ◌<◌, ◌+◌, [], length, replicate, false, true, None, IfOk};
+ghost use Rattle.std.specs.List.{sum};
+ghost use Rattle.answer_theory.specs.Bags.{SameBag};
+ghost use Rattle.bucket_store.specs.Held.{greatest_total};
+ghost use Rattle.row_match.specs.Shapes.{vars_of};
+ghost use Rattle.row_match.specs.declared.shape.Side.TheVariants as side;
+ghost use Rattle.join_core.specs.Given.{given_rows, joined_rows};
+ghost use Rattle.join_core.specs.State.{ended, fresh_join, has_ended, pile_weights, piles_of, stored_rows};
+ghost use Rattle.join_core.specs.Steps.{Arrives, GivesNext, JoinStep, came_in, gave_out, is_finished, on_side};
+
+use crate::probe::Probe;
+use crate::sides::{Sides, opposite};
+use row_match::{JoinShape, Side};
+use std::alloc::{AllocError, Global};
+use std::marker::Model;
+use tuple_core::{KeyRoom, Row, bucket_of};
+
+/// What came of a row.
+#[derive(Debug, Drop)]
+pub enum Arrive {
+    /// It is kept, and is the probe.
+    Taken,
+    /// Memory ran out, or the join has had 2^64 - 1 rows: nothing has changed, and the row is handed back.
+    NoMemory(Row),
+}
+
+/// The next match.
+#[derive(Debug, Drop)]
+pub enum OutStep {
+    /// The left row and the right row, glued.
+    Row(Row),
+    /// No match of the probe is left.
+    Nothing,
+    /// Nothing has changed: the same match comes next.
+    NoMemory,
+}
+
+/// A join of two sides.
+#[derive(Debug, Drop)]
+pub struct Join {
+    shape: JoinShape,
+    sides: Sides,
+    left_ended: bool,
+    right_ended: bool,
+    next: u64,
+    // The key of the probe, while one is under way.
+    key: KeyRoom,
+    probe: Option<Probe>,
+}
+
+impl Model for Join {
+    ghost use Rattle.join_core.specs.Kept.{IsJoin};
+    ghost use Rattle.join_core.specs.Sides.{joining_of};
+    ghost use Rattle.join_core.specs.State.{Joining};
+
+    ghost Value = { Joining };
+
+    ghost view = { λ j. joining_of j.shape j.sides j.left_ended j.right_ended j.next j.probe };
+
+    ghost invariant = { λ j. IsJoin j.shape j.sides j.next j.key j.probe };
+}
+
+impl Join {
+    /// A join without rows, with so many buckets on each side.
+    pub fn new(alloc: Global, shape: JoinShape, buckets: u32) -> Result<Join, AllocError>
+        requires { 0 < buckets }
+        ensures { IfOk result (λ join. join ≡ fresh_join buckets shape) }
+    {
+        Ok(Join {
+            shape,
+            sides: Sides::new(alloc, buckets)?,
+            left_ended: false,
+            right_ended: false,
+            next: 0,
+            key: KeyRoom::new(alloc)?,
+            probe: None,
+        })
+    }
+
+    /// The next row of a side comes. It is kept, and is compared with the other side's rows by `next_out`.
+    pub fn arrive(&mut self, alloc: Global, side: Side, row: Row) -> Arrive
+        requires goes_on { has_ended side self.old ≡ false }
+        requires idle { self.old.probe ≡ None }
+        requires wide { length row ≡ length (vars_of side self.old.shape) }
+        ensures arrives { Arrives self.old self.new side row result }
+        ensures step { JoinStep self.old self.new (on_side side side.Left (came_in side row result)) (on_side side side.Right (came_in side row result)) [] }
+    {
+        let Some(next) = self.next.checked_add(1) else {
+            return Arrive::NoMemory(row);
+        };
+        self.shape.key_of(side, &row, &mut self.key);
+        let key = self.key.as_slice();
+        if let Err(AllocError) = self.sides.insert(alloc, side, key, &row, self.next) {
+            return Arrive::NoMemory(row);
+        }
+        self.probe = Some(Probe {
+            side,
+            row,
+            number: self.next,
+            bucket: bucket_of(key, self.sides.on(side).count()),
+            place: 0,
+            from: 0,
+        });
+        self.next = next;
+        Arrive::Taken
+    }
+
+    /// The next match of the row that came last.
+    pub fn next_out(&mut self, alloc: Global) -> OutStep
+        ensures gives { GivesNext self.old self.new result }
+        ensures step { JoinStep self.old self.new [] [] (gave_out result) }
+    {
+        let Some(probe) = &mut self.probe else {
+            return OutStep::Nothing;
+        };
+        let facing = self.sides.on(opposite(probe.side));
+        let Some(place) = facing.probe(self.key.as_slice(), probe.place) else {
+            self.probe = None;
+            return OutStep::Nothing;
+        };
+        let Ok(other) = facing.row_at(alloc, probe.bucket, place) else {
+            return OutStep::NoMemory;
+        };
+        let Ok(glued) = glue(alloc, &self.shape, probe.side, &probe.row, &other) else {
+            return OutStep::NoMemory;
+        };
+        probe.from = facing.entry(probe.bucket, place).number() + 1;
+        probe.place = place + 1;
+        OutStep::Row(glued)
+    }
+
+    /// No row comes on this side any more.
+    pub fn close(&mut self, side: Side)
+        ensures { self.new ≡ ended side self.old }
+    {
+        match side {
+            Side::Left => self.left_ended = true,
+            Side::Right => self.right_ended = true,
+        }
+    }
+
+    /// Whether both sides have ended and all matches are given.
+    pub fn finished(&self) -> bool
+        ensures finished { result ≡ is_finished self.now }
+        ensures all { result ≡ true → SameBag (given_rows self.now) (joined_rows self.now.shape (stored_rows side.Left self.now) (stored_rows side.Right self.now)) }
+    {
+        self.left_ended && self.right_ended && self.probe.is_none()
+    }
+
+    /// How heavy the rows of each bucket of a side are that are in memory.
+    pub fn weights(&self, side: Side) -> &[u64]
+        ensures weights { result.now ≡ pile_weights (piles_of side self.now) }
+        ensures light { sum (pile_weights (piles_of side self.now)) ≤ greatest_total }
+    {
+        self.sides.on(side).weights()
+    }
+}
+
+// The probe's row and the facing one, glued in the order of the sides.
+fn glue(alloc: Global, shape: &JoinShape, side: Side, row: &Row, other: &Row) -> Result<Row, AllocError>
+    requires row { length row.now ≡ length (vars_of side shape.now) }
+    requires other { length other.now ≡ length (vars_of (opposite side) shape.now) }
+    ensures { IfOk result (λ r. r ≡ glued_on side shape.now row.now other.now) }
+{
+    match side {
+        Side::Left => shape.glue(alloc, row, other),
+        Side::Right => shape.glue(alloc, other, row),
+    }
+}
