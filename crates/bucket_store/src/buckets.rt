@@ -3,6 +3,7 @@
 ghost use Rattle.std.specs.Prelude.{◌≡◌, ◌+◌, ◌<◌, ◌≤◌, ◌^◌, [], length, replicate, set, slice_index_or, IfOk, IfSome, OnOk, OnErr};
 ghost use Rattle.std.specs.List.{sum};
 ghost use Rattle.tuple_core.specs.Hashing.{bucket_of};
+ghost use Rattle.tuple_core.specs.Values.{FitsRow};
 ghost use Rattle.bucket_store.specs.Held.{ArePlaced, BelongTo, greatest_total, has_key, no_row, rows_in, rows_weight, weights_of, with_row};
 ghost use Rattle.bucket_store.specs.Places.{next_place};
 
@@ -67,6 +68,7 @@ impl Buckets {
     /// would weigh more than [`Self::GREATEST_TOTAL`].
     pub fn insert(&mut self, alloc: Global, key: &[u8], row: &Row, number: u64) -> Result<(), AllocError>
         ensures ok { OnOk result (self.new ≡ with_row self.old (record { key = key.now; row = row.now; number = number })) }
+        ensures fits { FitsRow row.now }
         ensures err { OnErr result (self.new ≡ self.old) }
     {
         let weight = weight(row);

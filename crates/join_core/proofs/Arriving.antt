@@ -68,8 +68,8 @@ stored_more buckets held inside =
     (bag_trans (bag_map (λ (h : Held). h.row) (more_in buckets (bucket_of (length buckets) held.key) held inside))
     (bag_from_same (map-append (λ (h : Held). h.row) (all_in buckets) (held ∷ []) ∙ ap (λ hs. map (λ (h : Held). h.row) hs ++ held.row ∷ []) (sym (rows_open buckets)))))
 
-no_more : {s t : Joining} → t.shape ≡ s.shape → SameBag (pairs_given t) (pairs_given s) → SameBag (given_rows t) (given_rows s ++ [])
-no_more {s} {t} same h =
+no_more : (s t : Joining) → t.shape ≡ s.shape → SameBag (pairs_given t) (pairs_given s) → SameBag (given_rows t) (given_rows s ++ [])
+no_more s t same h =
     subst (λ shape. SameBag (map (λ p. glued shape p.0.row p.1.row) (pairs_given t)) (given_rows s ++ [])) (sym same)
     (bag_trans (bag_map (λ p. glued s.shape p.0.row p.1.row) h) (bag_from_same (sym (append-nil (given_rows s)))))
 
@@ -97,7 +97,7 @@ module _ (shape : Shape) (sides : TwoSides) (left_ended right_ended : Bool) (nex
     shape = refl;
     left = stored_more sides.left held inside;
     right = bag_from_same (sym (append-nil _));
-    given = no_more {s = came} {t = t} refl (
+    given = no_more came t refl (
         bag_trans (bag_from_same (ap₂ (pairs (is_given t)) (rows_open (with_row sides.left held)) (rows_open sides.right)))
         (bag_trans (bag_pairs (is_given t) (more_in sides.left bucket held inside) (bag_refl (all_in sides.right)))
         (bag_from_same (pairs_append_left (is_given t) (all_in sides.left) (held ∷ []) (all_in sides.right)
@@ -125,15 +125,19 @@ module _ (shape : Shape) (sides : TwoSides) (left_ended right_ended : Bool) (nex
 
       old : AlikeOn (all_in sides.left) (all_in sides.right) (is_given t) (is_given came)
       old = λ k d i j e o.
-          test _ _
-          ∙ (old_kept (is_match _ _) (pends (length sides.left) q _ _) (old_rests (length sides.left) held _ _ q refl (all_earlier side.Left shape next sides.left early k d i))
-          ∙ sym (given_is shape sides left_ended right_ended next None _ _))
+          let l = get_or (all_in sides.left) k d in
+          let r = get_or (all_in sides.right) j e in
+          test l r
+          ∙ (old_kept (is_match l r) (pends (length sides.left) q l r) (old_rests (length sides.left) held l r q refl (all_earlier side.Left shape next sides.left early k d i))
+          ∙ sym (given_is shape sides left_ended right_ended next None l r))
 
       new : AlikeOn (held ∷ []) (all_in sides.right) (is_given t) (λ l r. false)
       new = λ k d i. first k d i
         where
           first : (k : ℕ) (d : Held) → k < 1 → All (λ r. is_given t (get_or (held ∷ []) k d) r ≡ false) (all_in sides.right)
-          first zero d i = λ j e o. test held _ ∙ new_waits (is_match held _) (pends (length sides.left) q held _) (new_pends (length sides.left) held _ q refl refl refl)
+          first zero d i = λ j e o.
+              let r = get_or (all_in sides.right) j e in
+              test held r ∙ new_waits (is_match held r) (pends (length sides.left) q held r) (new_pends (length sides.left) held r q refl refl refl)
           first (suc k) d i = absurd (omega arith)
 
   right_step : probing_of after ≡ begun side.Right (length sides.right) (kept_as side.Right shape row next)
@@ -143,7 +147,7 @@ module _ (shape : Shape) (sides : TwoSides) (left_ended right_ended : Bool) (nex
     shape = refl;
     left = bag_from_same (sym (append-nil _));
     right = stored_more sides.right held inside;
-    given = no_more {s = came} {t = t} refl (
+    given = no_more came t refl (
         bag_trans (bag_from_same (ap₂ (pairs (is_given t)) (rows_open sides.left) (rows_open (with_row sides.right held))))
         (bag_trans (bag_pairs (is_given t) (bag_refl (all_in sides.left)) (more_in sides.right bucket held inside))
         (bag_trans (pairs_append_right (is_given t) (all_in sides.left) (all_in sides.right) (held ∷ []))
@@ -170,9 +174,11 @@ module _ (shape : Shape) (sides : TwoSides) (left_ended right_ended : Bool) (nex
 
       old : AlikeOn (all_in sides.left) (all_in sides.right) (is_given t) (is_given came)
       old = λ k d i j e o.
-          test _ _
-          ∙ (old_kept (is_match _ _) (pends (length sides.left) q _ _) (old_rests (length sides.left) held _ _ q refl (all_earlier side.Right shape next sides.right early j e o))
-          ∙ sym (given_is shape sides left_ended right_ended next None _ _))
+          let l = get_or (all_in sides.left) k d in
+          let r = get_or (all_in sides.right) j e in
+          test l r
+          ∙ (old_kept (is_match l r) (pends (length sides.left) q r l) (old_rests (length sides.left) held r l q refl (all_earlier side.Right shape next sides.right early j e o))
+          ∙ sym (given_is shape sides left_ended right_ended next None l r))
 
       new : AlikeOn (all_in sides.left) (held ∷ []) (is_given t) (λ l r. false)
       new = λ k d i. first k d i
@@ -181,7 +187,9 @@ module _ (shape : Shape) (sides : TwoSides) (left_ended right_ended : Bool) (nex
           first k d i = only_one
             where
               only_one : (j : ℕ) (e : Held) → j < 1 → is_given t (get_or (all_in sides.left) k d) (get_or (held ∷ []) j e) ≡ false
-              only_one zero e o = test _ held ∙ new_waits (is_match _ held) (pends (length sides.left) q held _) (new_pends (length sides.left) held _ q (ap (λ n. bucket_of n held.key) (sym many)) refl refl)
+              only_one zero e o =
+                  let l = get_or (all_in sides.left) k d in
+                  test l held ∙ new_waits (is_match l held) (pends (length sides.left) q held l) (new_pends (length sides.left) held l q (ap (λ n. bucket_of n held.key) (sym many)) refl refl)
               only_one (suc j) e o = absurd (omega arith)
 
 -- on either side

@@ -1,8 +1,9 @@
 -- All rows of a side, bucket after bucket.
-use Rattle.std.proofs.Common.{◌≡◌, ◌<◌, ◌≤◌, ◌+◌, ◌==◌, ◌++◌, ◌&&◌, ℕ, zero, suc, Bool, true, false, List, [], ◌∷◌, length, get_or, set, map, flat_map, filter, All, inl, inr, refl, sym, ap, ap₂, subst, ◌∙◌, arith, append-nil, append_assoc, get_or_default}
+use Rattle.std.proofs.Common.{◌≡◌, ◌<◌, ◌≤◌, ◌+◌, ◌==◌, ◌++◌, ◌&&◌, ℕ, zero, suc, Bool, true, false, List, [], ◌∷◌, length, get_or, set, map, flat_map, filter, All, inl, inr, refl, sym, ap, ap₂, subst, ◌∙◌, arith, append-nil, append_assoc}
 use Rattle.std.specs.List.{AllByRecursion, AllPairs}
 use Rattle.std.specs.Cmp.Lexicographic.{bytes_decides}
 use Rattle.std.proofs.lemmas.Bool.{and_left, and_parts, cases_order, cases_eq, eq-eqb, eqb-true, false≢true, ne_eqb, true≢false}
+use Rattle.std.proofs.lemmas.List.{get_or_default}
 use Rattle.std.proofs.lemmas.List.Elements.{All-from_recursion, recursion_from_All}
 use Rattle.answer_theory.specs.Bags.{SameBag}
 use Rattle.answer_theory.specs.Pairs.{AlikeOn}
@@ -36,6 +37,13 @@ alike_in lefts rights p q h =
     (each_in (λ l. All (λ r. p l r ≡ q l r) (all_in rights)) lefts (λ b inside k d within.
     All-from_recursion (λ r. p (get_or (rows_in lefts b) k d) r ≡ q (get_or (rows_in lefts b) k d) r) (all_in rights)
     (each_in (λ r. p (get_or (rows_in lefts b) k d) r ≡ q (get_or (rows_in lefts b) k d) r) rights (λ c there j e on. h b c inside there k j d e within on))))
+
+-- tests that answer alike on all rows, and where others do
+pub alike_all : (ls rs : HeldList) (p q : Held → Held → Bool) → ((l r : Held) → p l r ≡ q l r) → AlikeOn ls rs p q
+alike_all ls rs p q h = λ k d i j e o. h (get_or ls k d) (get_or rs j e)
+
+pub alike_from : (ls rs : HeldList) (p q s t : Held → Held → Bool) → AlikeOn ls rs p q → ((l r : Held) → p l r ≡ q l r → s l r ≡ t l r) → AlikeOn ls rs s t
+alike_from ls rs p q s t h f = λ k d i j e o. f (get_or ls k d) (get_or rs j e) (h k d i j e o)
 
 -- ---- a row more
 
@@ -123,8 +131,8 @@ pub row_once : (buckets : List HeldList) (b k : ℕ) (d : Held) → ArePlaced bu
     → filter (is_row (get_or (rows_in buckets b) k d)) (all_in buckets) ≡ get_or (rows_in buckets b) k d ∷ []
 row_once buckets b k d placed inside rising there =
     filter_in (is_row row) buckets b (row ∷ []) inside
-    (filter_one (is_row row) (rows_in buckets b) k d there (is_row_itself row) (λ j e on other. is_no_row row _ (λ key number. other (one_place (rows_in buckets b) j k e d rising on there number))))
-    (λ c on other. filter_none (is_row row) (rows_in buckets c) (λ j e l. is_no_row row _ (λ key number.
+    (filter_one (is_row row) (rows_in buckets b) k d there (is_row_itself row) (λ j e on other. is_no_row row (get_or (rows_in buckets b) j e) (λ key number. other (one_place (rows_in buckets b) j k e d rising on there number))))
+    (λ c on other. filter_none (is_row row) (rows_in buckets c) (λ j e l. is_no_row row (get_or (rows_in buckets c) j e) (λ key number.
     other (sym (placed.each c on j e l) ∙ (ap (bucket_of (length buckets)) key ∙ placed.each b inside k d there)))))
   where
     row : Held

@@ -1,16 +1,17 @@
 -- What a join keeps of its rows is kept.
-use Rattle.std.proofs.Common.{◌≡◌, ◌<◌, ◌≤◌, ◌+◌, ◌%◌, ◌++◌, ⊤, ℕ, zero, suc, List, [], ◌∷◌, length, get_or, set, All, Option, Some, None, inl, inr, refl, sym, ap, subst, ◌∙◌, arith, get_or_default}
+use Rattle.std.proofs.Common.{◌≡◌, ◌<◌, ◌≤◌, ◌+◌, ◌%◌, ◌++◌, ℕ, zero, suc, List, [], ◌∷◌, length, get_or, set, All, Option, Some, None, option_map, inl, inr, refl, sym, ap, subst, ◌∙◌, arith}
 use Rattle.std.specs.List.{AllPairs}
 use Rattle.std.specs.Option.{MatchOption}
 use Rattle.std.proofs.lemmas.Nat.{mod_below}
 use Rattle.std.proofs.lemmas.Bool.{cases_eq, cases_lt, cases_order}
-use Rattle.std.proofs.lemmas.List.{get_or-set_other, get_or-set_same, length-set}
+use Rattle.std.proofs.lemmas.List.{get_or_default, get_or-set_other, get_or-set_same, length-set}
 use Rattle.std.proofs.lemmas.List.Elements.{All-push}
 use Rattle.std.proofs.lemmas.List.Quantifiers.{all_pairs_push}
 use Rattle.med_prelude.specs.Texts.{Bytes}
 use Rattle.tuple_core.specs.Hashing.{bucket_of, byte_hash}
-use Rattle.tuple_core.specs.Values.{RowValues}
-use Rattle.row_match.specs.Shapes.{Shape}
+use Rattle.tuple_core.specs.Encoding.{row_encoding}
+use Rattle.tuple_core.specs.Values.{FitsRow, RowValues}
+use Rattle.row_match.specs.Shapes.{Shape, key_row, vars_of}
 use Rattle.row_match.specs.declared.shape.Side.{Side}
 use Rattle.row_match.specs.declared.shape.Side.TheVariants as side
 use Rattle.bucket_store.specs.Held.{ArePlaced, Held, HeldList, has_key, rows_in, with_row}
@@ -61,15 +62,6 @@ side_more sd shape next buckets held h new number = record {
       | inl same ↦ subst (λ x. P (rows_in (set buckets bucket more) x)) (sym same) (subst P (sym (get_or-set_same buckets bucket more [] inside)) p)
       | inr other ↦ subst P (sym (get_or-set_other buckets bucket b more [] other)) q
     ]
-
--- the probe of the row
-record Begins (sd : Side) (count next : ℕ) (key : Bytes) (row : RowValues) (p : Probe) : Type 0 where
-  side_is : p.side ≡ sd
-  number_is : p.number ≡ next
-  bucket_is : p.bucket ≡ bucket_of count key
-  row_is : p.row ≡ row
-  place_is : p.place ≡ 0
-  from_is : p.from ≡ 0
 
 -- ---- the probe and what faces it
 
@@ -135,3 +127,52 @@ probing_on shape sides next key p after at partner h rising inside is moved = su
   where
     here : (d : Held) → get_or (facing_rows sides p) at d ≡ partner
     here d = get_or_default (facing_rows sides p) at d partner inside ∙ is
+
+-- ---- the row that came is the probe
+
+pub count_kept : (sd : Side) (sides : TwoSides) (held : Held) → length (buckets_on sd (with_buckets sd sides (with_row (buckets_on sd sides) held))) ≡ length (buckets_on sd sides)
+count_kept side.Left sides held = length-set sides.left (bucket_of (length sides.left) held.key) (rows_in sides.left (bucket_of (length sides.left) held.key) ++ held ∷ [])
+count_kept side.Right sides held = length-set sides.right (bucket_of (length sides.right) held.key) (rows_in sides.right (bucket_of (length sides.right) held.key) ++ held ∷ [])
+
+row_there : (buckets : List HeldList) (held : Held) → ArePlaced buckets → rows_in (with_row buckets held) (bucket_of (length buckets) held.key) ≡ rows_in buckets (bucket_of (length buckets) held.key) ++ held ∷ []
+row_there buckets held placed = get_or-set_same buckets (bucket_of (length buckets) held.key) (rows_in buckets (bucket_of (length buckets) held.key) ++ held ∷ []) [] (bucket_inside buckets held.key placed)
+
+module _ (shape : Shape) (sides : TwoSides) (next : ℕ) (key other : Bytes) (row : RowValues) (probe : Option Probe) (h : IsJoin shape sides next other probe) (fits : FitsRow row) where
+  new_held : (sd : Side) → key ≡ row_encoding (key_row sd shape row) → length row ≡ length (vars_of sd shape) → IsHeld sd shape (next + 1) (record { key = key; row = row; number = next })
+  new_held sd key_is wide = record { key_is = key_is; wide = wide; fits = fits; earlier = omega arith }
+
+  pub keeps_arrival : (sd : Side) → key ≡ row_encoding (key_row sd shape row) → length row ≡ length (vars_of sd shape)
+      → IsJoin shape (with_buckets sd sides (with_row (buckets_on sd sides) (record { key = key; row = row; number = next }))) (next + 1) key
+      (Some (record { side = sd; row = row; number = next; bucket = bucket_of (length (buckets_on sd sides)) key; place = 0; from = 0 }))
+  keeps_arrival side.Left key_is wide = record {
+    left = side_more side.Left shape next sides.left (record { key = key; row = row; number = next }) h.left (new_held side.Left key_is wide) refl;
+    right = side_older side.Right shape next sides.right h.right;
+    many = count_kept side.Left sides (record { key = key; row = row; number = next }) ∙ h.many;
+    probing = record {
+      last = refl;
+      key_is = key_is;
+      bucket_is = ap (λ n. bucket_of n key) (sym (count_kept side.Left sides (record { key = key; row = row; number = next })));
+      others = rows_in sides.left (bucket_of (length sides.left) key);
+      own = row_there sides.left (record { key = key; row = row; number = next }) h.left.placed;
+      behind = λ k d l i. absurd (omega arith);
+      ahead = λ k d l i. omega arith;
+    };
+  }
+  keeps_arrival side.Right key_is wide = record {
+    left = side_older side.Left shape next sides.left h.left;
+    right = side_more side.Right shape next sides.right (record { key = key; row = row; number = next }) h.right (new_held side.Right key_is wide) refl;
+    many = h.many ∙ sym (count_kept side.Right sides (record { key = key; row = row; number = next }));
+    probing = record {
+      last = refl;
+      key_is = key_is;
+      bucket_is = ap (λ n. bucket_of n key) (sym (count_kept side.Right sides (record { key = key; row = row; number = next })));
+      others = rows_in sides.right (bucket_of (length sides.right) key);
+      own = row_there sides.right (record { key = key; row = row; number = next }) h.right.placed;
+      behind = λ k d l i. absurd (omega arith);
+      ahead = λ k d l i. omega arith;
+    };
+  }
+
+pub no_probe : (o : Option Probe) → option_map probing_of o ≡ None → o ≡ None
+no_probe None e = refl
+no_probe (Some p) e = absurd (let no : Some (probing_of p) ≡ None = e in cc)

@@ -3,3 +3,5 @@ pub mod Pointwise
 pub mod Stepping
 pub mod Arriving
 pub mod Keeping
+pub mod Turning
+pub mod Finishing

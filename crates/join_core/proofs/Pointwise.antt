@@ -1,7 +1,7 @@
 -- What a step of a join does to one pair of rows.
-use Rattle.std.proofs.Common.{◌≡◌, ◌<◌, ◌≤◌, ◌+◌, ◌==◌, ◌++◌, ◌&&◌, ◌||◌, not, nat_le, ℕ, Bool, true, false, List, [], ◌∷◌, length, get_or, filter, Some, None, inl, inr, refl, sym, ap, subst, ◌∙◌, arith, get_or_default}
+use Rattle.std.proofs.Common.{◌≡◌, ◌<◌, ◌≤◌, ◌+◌, ◌==◌, ◌++◌, ◌&&◌, ◌||◌, not, nat_le, ℕ, Bool, true, false, List, [], ◌∷◌, length, get_or, filter, Some, None, inl, inr, refl, sym, ap, subst, ◌∙◌, arith}
 use Rattle.std.proofs.lemmas.Bool.{and_parts, cases_lt, cases_order, eq-eqb, eqb-true, false≢true, le-leb, leb-true, lt-leb, ne_eqb}
-use Rattle.std.proofs.lemmas.List.{get_or_push, length_push}
+use Rattle.std.proofs.lemmas.List.{get_or_default, get_or_push, length_push}
 use Rattle.tuple_core.specs.Hashing.{bucket_of}
 use Rattle.bucket_store.specs.Held.{ArePlaced, Held, HeldList, has_key, rows_in, same_key}
 use Rattle.bucket_store.specs.Places.{next_place}

@@ -1,5 +1,5 @@
 -- The steps of a join whose rows are all in memory.
-use Rattle.std.proofs.Common.{◌≡◌, ◌<◌, ◌≤◌, ◌+◌, ◌-◌, ◌==◌, ◌++◌, ◌&&◌, ◌||◌, not, cond, nat_lt, nat_le, ℕ, zero, suc, Bool, true, false, List, [], ◌∷◌, length, get_or, set, map, flat_map, filter, drop, All, Option, Some, None, option_map, inl, inr, refl, sym, ap, ap₂, subst, ◌∙◌, arith, append-nil, append_assoc}
+use Rattle.std.proofs.Common.{◌≡◌, ◌<◌, ◌≤◌, ◌+◌, ◌-◌, ◌==◌, ◌++◌, ◌&&◌, ◌||◌, not, cond, nat_lt, nat_le, ℕ, zero, suc, Bool, true, false, List, [], ◌∷◌, length, get_or, set, map, max, flat_map, filter, drop, All, Option, Some, None, option_map, inl, inr, refl, sym, ap, ap₂, subst, ◌∙◌, arith, append-nil, append_assoc}
 use Rattle.std.specs.List.{AllByRecursion, list_all}
 use Rattle.std.proofs.lemmas.Bool.{and_parts, false≢true, le-leb, lt-leb}
 use Rattle.std.proofs.lemmas.List.{get_or-map, get_or_default, get_or_push, length-map, length-set, length_push, map-append, map-set}
@@ -26,7 +26,7 @@ use Rattle.join_core.specs.Sides.{TwoSides, buckets_on, joining_of, opposite, pr
 use Rattle.join_core.specs.State.{Joining, Pile, Probing, arrived, held_next, open_pile, pile_at, piles_of, rows_of, stored_rows, with_held}
 use Rattle.join_core.specs.Steps.{Gives, GivesNothing, JoinStep, is_row, on_side}
 use Rattle.join_core.specs.declared.probe.Probe.{Probe}
-use Rattle.join_core.proofs.Flat.{all_in, alike_in, each_in, keys_turned, more_in, row_once, rows_open, same_keys}
+use Rattle.join_core.proofs.Flat.{all_in, alike_all, alike_from, alike_in, each_in, keys_turned, more_in, row_once, rows_open, same_keys}
 use Rattle.join_core.proofs.Pointwise.{Faces, new_pends, nothing_pends, old_rests, one_given, own_once, own_pends, pair_matches, pair_pends, partner_once}
 
 -- ---- steps follow one another
@@ -39,15 +39,15 @@ step_none s = record {
   given = bag_from_same (sym (append-nil _));
 }
 
-append_bags : {a b c : RowList} (more later : RowList) → SameBag b (a ++ more) → SameBag c (b ++ later) → SameBag c (a ++ (more ++ later))
-append_bags {a} {b} {c} more later h k = bag_trans k (bag_trans (bag_append h (bag_refl later)) (bag_from_same (append_assoc a more later)))
+append_bags : (a b c more later : RowList) → SameBag b (a ++ more) → SameBag c (b ++ later) → SameBag c (a ++ (more ++ later))
+append_bags a b c more later h k = bag_trans k (bag_trans (bag_append h (bag_refl later)) (bag_from_same (append_assoc a more later)))
 
 pub step_then : (s t u : Joining) (l r gave l_more r_more gave_more : RowList) → JoinStep s t l r gave → JoinStep t u l_more r_more gave_more → JoinStep s u (l ++ l_more) (r ++ r_more) (gave ++ gave_more)
 step_then s t u l r gave l_more r_more gave_more h k = record {
   shape = k.shape ∙ h.shape;
-  left = append_bags l l_more h.left k.left;
-  right = append_bags r r_more h.right k.right;
-  given = append_bags gave gave_more h.given k.given;
+  left = append_bags (stored_rows side.Left s) (stored_rows side.Left t) (stored_rows side.Left u) l l_more h.left k.left;
+  right = append_bags (stored_rows side.Right s) (stored_rows side.Right t) (stored_rows side.Right u) r r_more h.right k.right;
+  given = append_bags (given_rows s) (given_rows t) (given_rows u) gave gave_more h.given k.given;
 }
 
 -- ---- a row that is given is one row more
@@ -134,10 +134,10 @@ module _ (shape : Shape) (sides : TwoSides) (left_ended right_ended : Bool) (nex
   pub none_pending : (sd : Side) (q : Probing) (own : Held) (place : ℕ) → Faces (buckets_on sd sides) (buckets_on (opposite sd) sides) q own place → length sides.left ≡ length sides.right
       → next_place (has_key own.key) (rows_in (buckets_on (opposite sd) sides) q.bucket) place ≡ None
       → AlikeOn (all_in sides.left) (all_in sides.right) (λ l r. is_match l r && pends_on sd (length sides.left) q l r) (λ l r. false)
-  none_pending side.Left q own place f many none = alike_in sides.left sides.right _ _ (λ b c inside there k j d e on within.
+  none_pending side.Left q own place f many none = alike_in sides.left sides.right (λ l r. is_match l r && pends (length sides.left) q l r) (λ l r. false) (λ b c inside there k j d e on within.
       nothing_pends sides.left sides.right q own place f none b k d inside on c j e there within)
-  none_pending side.Right q own place f many none = alike_in sides.left sides.right _ _ (λ b c inside there k j d e on within.
-      ap (λ m. m && pends (length sides.left) q (get_or (rows_in sides.right c) j e) (get_or (rows_in sides.left b) k d)) (keys_turned _ _)
+  none_pending side.Right q own place f many none = alike_in sides.left sides.right (λ l r. is_match l r && pends (length sides.left) q r l) (λ l r. false) (λ b c inside there k j d e on within.
+      ap (λ m. m && pends (length sides.left) q (get_or (rows_in sides.right c) j e) (get_or (rows_in sides.left b) k d)) (keys_turned (get_or (rows_in sides.left b) k d).key (get_or (rows_in sides.right c) j e).key)
       ∙ (ap (λ n. same_key (get_or (rows_in sides.right c) j e).key (get_or (rows_in sides.left b) k d).key && pends n q (get_or (rows_in sides.right c) j e) (get_or (rows_in sides.left b) k d)) many
       ∙ nothing_pends sides.right sides.left q own place f none c j e there within b k d inside on))
 
@@ -146,25 +146,25 @@ module _ (shape : Shape) (sides : TwoSides) (left_ended right_ended : Bool) (nex
         → next_place (has_key own.key) (rows_in (buckets_on (opposite p.side) sides) p.bucket) place ≡ None
         → GivesNothing (state (Some p)) (state None) × JoinStep (state (Some p)) (state None) [] [] []
     nothing_given own place f many none = (
-        record { none = pairs_alike _ (λ l r. false) _ _ (on_rows _ _ pending) ∙ no_pairs _ _; ended = refl },
+        record { none = pairs_alike (λ l r. is_match l r && (have_met (state (Some p)) l r && is_pending (state (Some p)) l r)) (λ l r. false) (rows_of (map open_pile sides.left)) (rows_of (map open_pile sides.right)) (on_rows (λ l r. is_match l r && (have_met (state (Some p)) l r && is_pending (state (Some p)) l r)) (λ l r. false) pending) ∙ no_pairs (rows_of (map open_pile sides.left)) (rows_of (map open_pile sides.right)); ended = refl },
         record {
           shape = refl;
           left = bag_from_same (sym (append-nil _));
           right = bag_from_same (sym (append-nil _));
-          given = bag_from_same (ap (map (λ p. glued shape p.0.row p.1.row)) (pairs_alike _ _ _ _ (on_rows _ _ same_given)) ∙ sym (append-nil _));
+          given = bag_from_same (ap (map (λ p. glued shape p.0.row p.1.row)) (pairs_alike (is_given (state None)) (is_given (state (Some p))) (rows_of (map open_pile sides.left)) (rows_of (map open_pile sides.right)) (on_rows (is_given (state None)) (is_given (state (Some p))) same_given)) ∙ sym (append-nil _));
         })
       where
         left_over : AlikeOn (all_in sides.left) (all_in sides.right) (λ l r. is_match l r && pends_on p.side (length sides.left) (probing_of p) l r) (λ l r. false)
         left_over = none_pending p.side (probing_of p) own place f many none
 
         pending : AlikeOn (all_in sides.left) (all_in sides.right) (λ l r. is_match l r && (have_met (state (Some p)) l r && is_pending (state (Some p)) l r)) (λ l r. false)
-        pending = λ k d i j e o.
-            ap (λ m. is_match _ _ && (m && is_pending (state (Some p)) _ _)) (met (Some p) _ _)
-            ∙ (ap (λ n. is_match _ _ && is_pending_in (Some (probing_of p)) n _ _) (length-map sides.left open_pile)
-            ∙ left_over k d i j e o)
+        pending = alike_from (all_in sides.left) (all_in sides.right) (λ l r. is_match l r && pends_on p.side (length sides.left) (probing_of p) l r) (λ l r. false) (λ l r. is_match l r && (have_met (state (Some p)) l r && is_pending (state (Some p)) l r)) (λ l r. false) left_over (λ l r h.
+            ap (λ m. is_match l r && (m && is_pending (state (Some p)) l r)) (met (Some p) l r)
+            ∙ (ap (λ n. is_match l r && is_pending_in (Some (probing_of p)) n l r) (length-map sides.left open_pile) ∙ h))
 
         same_given : AlikeOn (all_in sides.left) (all_in sides.right) (is_given (state None)) (is_given (state (Some p)))
-        same_given = λ k d i j e o. given_is None _ _ ∙ (no_pending _ _ (left_over k d i j e o) ∙ sym (given_is (Some p) _ _))
+        same_given = alike_from (all_in sides.left) (all_in sides.right) (λ l r. is_match l r && pends_on p.side (length sides.left) (probing_of p) l r) (λ l r. false) (is_given (state None)) (is_given (state (Some p))) left_over (λ l r h.
+            given_is None l r ∙ (no_pending (is_match l r) (pends_on p.side (length sides.left) (probing_of p) l r) h ∙ sym (given_is (Some p) l r)))
 
   -- ---- a match is given
 
@@ -172,9 +172,9 @@ module _ (shape : Shape) (sides : TwoSides) (left_ended right_ended : Bool) (nex
       → next_place (has_key own.key) (rows_in (buckets_on (opposite sd) sides) q.bucket) place ≡ Some at → get_or (rows_in (buckets_on (opposite sd) sides) q.bucket) at partner ≡ partner
       → AlikeOn (all_in sides.left) (all_in sides.right) (λ l r. is_match l r && not (pends_on sd (length sides.left) (record q { from = partner.number + 1 }) l r))
       (λ l r. (is_match l r && not (pends_on sd (length sides.left) q l r)) || (is_row (left_of sd own partner) l && is_row (right_of sd own partner) r))
-  row_alike side.Left q own partner place at f many found is = alike_in sides.left sides.right _ _ (λ b c inside there k j d e on within.
+  row_alike side.Left q own partner place at f many found is = alike_in sides.left sides.right (λ l r. is_match l r && not (pends (length sides.left) (record q { from = partner.number + 1 }) l r)) (λ l r. (is_match l r && not (pends (length sides.left) q l r)) || (is_row own l && is_row partner r)) (λ b c inside there k j d e on within.
       one_given sides.left sides.right q own place f at partner found is b k d inside on c j e there within)
-  row_alike side.Right q own partner place at f many found is = alike_in sides.left sides.right _ _ (λ b c inside there k j d e on within.
+  row_alike side.Right q own partner place at f many found is = alike_in sides.left sides.right (λ l r. is_match l r && not (pends (length sides.left) (record q { from = partner.number + 1 }) r l)) (λ l r. (is_match l r && not (pends (length sides.left) q r l)) || (is_row partner l && is_row own r)) (λ b c inside there k j d e on within.
       let l = get_or (rows_in sides.left b) k d in
       let r = get_or (rows_in sides.right c) j e in
       turn (same_key r.key l.key) (same_key l.key r.key) (pends (length sides.left) (record q { from = partner.number + 1 }) r l) (pends (length sides.left) q r l) (is_row own r) (is_row partner l)
@@ -223,11 +223,14 @@ module _ (shape : Shape) (sides : TwoSides) (left_ended right_ended : Bool) (nex
     was_owed = owed;
     was_pending = ap (λ n. is_pending_in (Some (probing_of p)) n l r) (length-map sides.left open_pile) ∙ pending;
     glue = glue;
-    one_more = on_rows _ _ (λ k d i j e o.
-        given_is (Some after) _ _
-        ∙ (ap (λ q. is_match _ _ && not (is_pending_in (Some q) (length sides.left) _ _)) moved
-        ∙ (row_alike p.side (probing_of p) own partner p.place at f many found is k d i j e o
-        ∙ ap (λ g. g || (is_row l _ && is_row r _)) (sym (given_is (Some p) _ _)))));
+    one_more = on_rows (is_given (state (Some after))) (λ x y. is_given (state (Some p)) x y || (is_row l x && is_row r y))
+        (alike_from (all_in sides.left) (all_in sides.right) (λ x y. is_match x y && not (pends_on p.side (length sides.left) (record (probing_of p) { from = partner.number + 1 }) x y))
+        (λ x y. (is_match x y && not (pends_on p.side (length sides.left) (probing_of p) x y)) || (is_row l x && is_row r y))
+        (is_given (state (Some after))) (λ x y. is_given (state (Some p)) x y || (is_row l x && is_row r y))
+        (row_alike p.side (probing_of p) own partner p.place at f many found is)
+        (λ x y h. given_is (Some after) x y
+        ∙ (ap (λ q. is_match x y && not (is_pending_in (Some q) (length sides.left) x y)) moved
+        ∙ (h ∙ ap (λ g. g || (is_row l x && is_row r y)) (sym (given_is (Some p) x y))))));
     same = refl;
     falls = let from = from_pends p.side (probing_of p) own partner p.place at f found is in omega (arith, from, less, ap (λ (q : Probing). q.from) moved);
   }
@@ -272,6 +275,21 @@ module _ (shape : Shape) (sides : TwoSides) (left_ended right_ended : Bool) (nex
   pub all_given : ((b : ℕ) → b < length sides.left → All (IsHeld side.Left shape next) (rows_in sides.left b)) → ((b : ℕ) → b < length sides.right → All (IsHeld side.Right shape next) (rows_in sides.right b))
       → SameBag (given_rows (state None)) (joined_rows shape (stored_rows side.Left (state None)) (stored_rows side.Right (state None)))
   all_given hl hr = bag_from_same (
-      ap (map (λ p. glued shape p.0.row p.1.row)) (pairs_alike _ is_match _ _ (λ k d i j e o. given_is None _ _ ∙ and_turned (is_match _ _) true))
-      ∙ joined_is _ _ (subst (AllByRecursion (IsHeld side.Left shape next)) (sym (rows_open sides.left)) (each_in (IsHeld side.Left shape next) sides.left hl))
+      ap (map (λ p. glued shape p.0.row p.1.row)) (pairs_alike (is_given (state None)) is_match (rows_of (map open_pile sides.left)) (rows_of (map open_pile sides.right))
+          (alike_all (rows_of (map open_pile sides.left)) (rows_of (map open_pile sides.right)) (is_given (state None)) is_match (λ l r. given_is None l r ∙ and_turned (is_match l r) true)))
+      ∙ joined_is (rows_of (map open_pile sides.left)) (rows_of (map open_pile sides.right)) (subst (AllByRecursion (IsHeld side.Left shape next)) (sym (rows_open sides.left)) (each_in (IsHeld side.Left shape next) sides.left hl))
       (subst (AllByRecursion (IsHeld side.Right shape next)) (sym (rows_open sides.right)) (each_in (IsHeld side.Right shape next) sides.right hr)))
+
+  -- ---- no probe is under way
+
+  pub nothing_idle : GivesNothing (state None) (state None)
+  nothing_idle = record {
+    none = pairs_alike (λ l r. is_match l r && (have_met (state None) l r && false)) (λ l r. false) (rows_of (map open_pile sides.left)) (rows_of (map open_pile sides.right)) (alike_all (rows_of (map open_pile sides.left)) (rows_of (map open_pile sides.right)) (λ l r. is_match l r && (have_met (state None) l r && false)) (λ l r. false) (λ l r. none_of (is_match l r) (have_met (state None) l r)))
+        ∙ no_pairs (rows_of (map open_pile sides.left)) (rows_of (map open_pile sides.right));
+    ended = refl;
+  }
+    where
+      none_of : (m h : Bool) → (m && (h && false)) ≡ false
+      none_of true true = refl
+      none_of true false = refl
+      none_of false h = refl

@@ -3,7 +3,9 @@ use Rattle.std.specs.Prelude.{List, map, option_map, Option, Bool, ℕ}
 use Rattle.row_match.specs.Shapes.{Shape}
 use Rattle.row_match.specs.declared.shape.Side.{Side}
 use Rattle.row_match.specs.declared.shape.Side.TheVariants as side
+use Rattle.tuple_core.specs.Values.{RowValues}
 use Rattle.bucket_store.specs.Held.{HeldList}
+use Rattle.join_core.specs.Given.{glued}
 use Rattle.join_core.specs.State.{Joining, Probing, cursor_start, open_pile}
 use Rattle.join_core.specs.declared.probe.Probe.{Probe}
 
@@ -38,3 +40,12 @@ joining_of shape sides left_ended right_ended next probe = record {
   probe = option_map probing_of probe;
   cursor = cursor_start
 }
+
+-- the row of a side and one of the other side, glued in the order of the sides
+abbrev pub glued_on : Side → Shape → RowValues → RowValues → RowValues
+glued_on side.Left shape row other = glued shape row other
+glued_on side.Right shape row other = glued shape other row
+
+-- the probe, which has come to a place
+abbrev pub at_place : ℕ → ℕ → Probe → Probe
+at_place place from p = record p { place = place; from = from }

@@ -1,17 +1,19 @@
 //! The join, and its calls.
 
-ghost use Rattle.std.specs.Prelude.{◌≡◌, ◌<◌, ◌+◌, [], length, replicate, false, true, None, IfOk};
+ghost use Rattle.std.specs.Prelude.{◌≡◌, ◌<◌, ◌≤◌, ◌+◌, ◌&&◌, [], length, option_map, slice_index_or, replicate, false, true, None, IfOk};
 ghost use Rattle.std.specs.List.{sum};
 ghost use Rattle.answer_theory.specs.Bags.{SameBag};
-ghost use Rattle.bucket_store.specs.Held.{greatest_total};
+ghost use Rattle.bucket_store.specs.Held.{greatest_total, no_row, rows_in};
 ghost use Rattle.row_match.specs.Shapes.{vars_of};
-ghost use Rattle.row_match.specs.declared.shape.Side.TheVariants as side;
+ghost use Rattle.row_match.specs.declared.shape.Side.TheVariants as which;
 ghost use Rattle.join_core.specs.Given.{given_rows, joined_rows};
+ghost use Rattle.join_core.specs.Sides.{at_place, glued_on, opposite};
 ghost use Rattle.join_core.specs.State.{ended, fresh_join, has_ended, pile_weights, piles_of, stored_rows};
 ghost use Rattle.join_core.specs.Steps.{Arrives, GivesNext, JoinStep, came_in, gave_out, is_finished, on_side};
 
 use crate::probe::Probe;
 use crate::sides::{Sides, opposite};
+use bucket_store::Buckets;
 use row_match::{JoinShape, Side};
 use std::alloc::{AllocError, Global};
 use std::marker::Model;
@@ -85,7 +87,7 @@ impl Join {
         requires idle { self.old.probe ≡ None }
         requires wide { length row ≡ length (vars_of side self.old.shape) }
         ensures arrives { Arrives self.old self.new side row result }
-        ensures step { JoinStep self.old self.new (on_side side side.Left (came_in side row result)) (on_side side side.Right (came_in side row result)) [] }
+        ensures step { JoinStep self.old self.new (on_side side which.Left (came_in side row result)) (on_side side which.Right (came_in side row result)) [] }
     {
         let Some(next) = self.next.checked_add(1) else {
             return Arrive::NoMemory(row);
@@ -112,7 +114,7 @@ impl Join {
         ensures gives { GivesNext self.old self.new result }
         ensures step { JoinStep self.old self.new [] [] (gave_out result) }
     {
-        let Some(probe) = &mut self.probe else {
+        let Some(probe) = &self.probe else {
             return OutStep::Nothing;
         };
         let facing = self.sides.on(opposite(probe.side));
@@ -120,14 +122,11 @@ impl Join {
             self.probe = None;
             return OutStep::Nothing;
         };
-        let Ok(other) = facing.row_at(alloc, probe.bucket, place) else {
+        let Ok(glued) = glue_at(alloc, &self.shape, facing, probe, place) else {
             return OutStep::NoMemory;
         };
-        let Ok(glued) = glue(alloc, &self.shape, probe.side, &probe.row, &other) else {
-            return OutStep::NoMemory;
-        };
-        probe.from = facing.entry(probe.bucket, place).number() + 1;
-        probe.place = place + 1;
+        let number = facing.entry(probe.bucket, place).number();
+        self.probe = moved_on(self.probe.take(), place + 1, number + 1);
         OutStep::Row(glued)
     }
 
@@ -144,9 +143,9 @@ impl Join {
     /// Whether both sides have ended and all matches are given.
     pub fn finished(&self) -> bool
         ensures finished { result ≡ is_finished self.now }
-        ensures all { result ≡ true → SameBag (given_rows self.now) (joined_rows self.now.shape (stored_rows side.Left self.now) (stored_rows side.Right self.now)) }
+        ensures all { result ≡ true → SameBag (given_rows self.now) (joined_rows self.now.shape (stored_rows which.Left self.now) (stored_rows which.Right self.now)) }
     {
-        self.left_ended && self.right_ended && self.probe.is_none()
+        are_all(self.left_ended, self.right_ended, self.probe.is_none())
     }
 
     /// How heavy the rows of each bucket of a side are that are in memory.
@@ -158,14 +157,34 @@ impl Join {
     }
 }
 
-// The probe's row and the facing one, glued in the order of the sides.
-fn glue(alloc: Global, shape: &JoinShape, side: Side, row: &Row, other: &Row) -> Result<Row, AllocError>
-    requires row { length row.now ≡ length (vars_of side shape.now) }
-    requires other { length other.now ≡ length (vars_of (opposite side) shape.now) }
-    ensures { IfOk result (λ r. r ≡ glued_on side shape.now row.now other.now) }
+fn are_all(first: bool, second: bool, third: bool) -> bool
+    ensures { result ≡ ((first && second) && third) }
 {
-    match side {
-        Side::Left => shape.glue(alloc, row, other),
-        Side::Right => shape.glue(alloc, other, row),
+    first && second && third
+}
+
+// The probe's row and the facing one at a place, glued in the order of the sides.
+fn glue_at(alloc: Global, shape: &JoinShape, facing: &Buckets, probe: &Probe, place: u32) -> Result<Row, AllocError>
+    requires bucket { probe.now.bucket < length facing.now }
+    requires place { place < length (rows_in facing.now probe.now.bucket) }
+    requires own { length probe.now.row ≡ length (vars_of probe.now.side shape.now) }
+    requires other { length (slice_index_or (rows_in facing.now probe.now.bucket) place no_row).row ≡ length (vars_of (opposite probe.now.side) shape.now) }
+    ensures { IfOk result (λ r. r ≡ glued_on probe.now.side shape.now probe.now.row (slice_index_or (rows_in facing.now probe.now.bucket) place no_row).row) }
+{
+    let other = facing.row_at(alloc, probe.bucket, place)?;
+    match probe.side {
+        Side::Left => shape.glue(alloc, &probe.row, &other),
+        Side::Right => shape.glue(alloc, &other, &probe.row),
     }
+}
+
+// The probe, which has come to a place.
+fn moved_on(probe: Option<Probe>, place: u32, from: u64) -> Option<Probe>
+    ensures { result ≡ option_map (at_place place from) probe }
+{
+    probe.map(|probe| Probe {
+        place,
+        from,
+        ..probe
+    })
 }

@@ -22,4 +22,4 @@ mod sides;
 mod tests;
 
 pub use join::{Arrive, Join, OutStep};
-pub use laws::{finished_joins, joins_step};
+pub use laws::joins_step;

@@ -2,6 +2,7 @@
 
 ghost use Rattle.std.specs.Prelude.{◌≡◌, ◌<◌, ◌+◌, ◌^◌, [], length, replicate, slice_index_or, IfOk, IfSome, OnOk, OnErr};
 ghost use Rattle.tuple_core.specs.Hashing.{bucket_of};
+ghost use Rattle.tuple_core.specs.Values.{FitsRow};
 ghost use Rattle.bucket_store.specs.Held.{has_key, no_row, rows_in, weights_of, with_row};
 ghost use Rattle.bucket_store.specs.Places.{next_place};
 ghost use Rattle.join_core.specs.Sides.{buckets_on, opposite, with_buckets};
@@ -58,6 +59,7 @@ impl Sides {
 
     pub(crate) fn insert(&mut self, alloc: Global, side: Side, key: &[u8], row: &Row, number: u64) -> Result<(), AllocError>
         ensures ok { OnOk result (self.new ≡ with_buckets side self.old (with_row (buckets_on side self.old) (record { key = key.now; row = row.now; number = number }))) }
+        ensures fits { FitsRow row.now }
         ensures err { OnErr result (self.new ≡ self.old) }
     {
         match side {
