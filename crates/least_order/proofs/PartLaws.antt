@@ -6,7 +6,7 @@ use Rattle.std.proofs.lemmas.Nat.{and_comm}
 use Rattle.std.specs.List.{AllByRecursion, filter, flat_map, sum_by}
 use Rattle.least_order.specs.declared.item.Item.{Item}
 use Rattle.least_order.specs.Items.{shares, touches}
-use Rattle.least_order.specs.Parts.{IsAmong, IsChain, IsLinked, AreApart, AreAllApart}
+use Rattle.least_order.specs.Parts.{HasItem, IsAmong, IsChain, IsLinked, AreApart, AreAllApart}
 use Rattle.least_order.specs.Sizes.{parts_of}
 
 -- all items of some parts
@@ -86,6 +86,12 @@ passes_cond test false first parts is all = all
 passes : (test : List Item → Bool) (parts : List (List Item)) → AllByRecursion (λ part. test part ≡ true) (filter test parts)
 passes test [] = tt
 passes test (first ∷ parts) = passes_cond test (test first) first (filter test parts) refl (passes test parts)
+
+pub parts_full : (items : List Item) → AllByRecursion HasItem (parts_of items)
+parts_full [] = tt
+parts_full (item ∷ items) =
+    all_push HasItem (filter (untouched item) (parts_of items)) (item ∷ items_in (filter (touches item) (parts_of items)))
+    (all_filter HasItem (untouched item) (parts_of items) (parts_full items)) tt
 
 -- items of parts side by side
 

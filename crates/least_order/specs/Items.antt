@@ -1,7 +1,11 @@
 -- Items, and which of them share a variable.
-use Rattle.std.specs.Prelude.{◌==◌, not, Bool, List, bit_and}
+use Rattle.std.specs.Prelude.{ℕ, ◌==◌, not, Bool, List, bit_and}
 use Rattle.std.specs.List.{list_any}
 use Rattle.least_order.specs.declared.item.Item.{Item}
+
+-- the most items that are put in an order
+abbrev pub most_items : ℕ
+most_items = 8
 
 -- there is a variable of both items
 abbrev pub shares : Item → Item → Bool

@@ -14,6 +14,11 @@ abbrev pub IsChain : List Item → Item → List Item → Item → Type 0
 IsChain part item [] last = item ≡ last
 IsChain part item (next ∷ chain) last = IsAmong next part × (shares item next ≡ true) × IsChain part next chain last
 
+-- an item stands in the part
+abbrev pub HasItem : List Item → Type 0
+HasItem [] = ⊥
+HasItem (item ∷ part) = Unit {0}
+
 -- any two items of the part are linked by a chain in it
 pub record IsLinked (part : List Item) : Type 0 where
   pub chain : (item other : Item) → IsAmong item part → IsAmong other part → (chain : List Item) × IsChain part item chain other

@@ -5,7 +5,8 @@ use Rattle.least_order.specs.declared.least.Next.{Next}
 use Rattle.least_order.specs.Certificates.{rest_through}
 use Rattle.least_order.specs.Greedy.{IsGreedyNext, IsTakenBefore}
 use Rattle.least_order.specs.Orders.{Order}
-use Rattle.least_order.specs.Sets.{is_in, members, with_position}
+use Rattle.least_order.specs.Sets.{greatest_set, is_in, members, with_position}
+use Rattle.least_order.specs.Sizes.{greatest_size}
 
 -- each position below the count is in the set
 abbrev pub HasNoneLeft : ℕ → ℕ → Type 0
@@ -29,9 +30,9 @@ IsLeastAt items rest set =
 abbrev pub AreLeast : List Item → List ℕ → ℕ → Type 0
 AreLeast items rest from = (set : ℕ) → from ≤ set → set < 2 ^ length items → IsLeastAt items rest set
 
--- the more a set has, the less is left to pay
+-- the more items a set has, the greater is its number, and the less is left to pay
 abbrev pub IsBounded : List ℕ → Type 0
-IsBounded rest = (set : ℕ) → slice_index rest set ≤ (255 - set) * 2 ^ 60
+IsBounded rest = (set : ℕ) → slice_index rest set ≤ (greatest_set - set) * greatest_size
 
 -- the positions are the first best ones, on top of a set, until none is left
 abbrev pub LeadsBest : List Item → List ℕ → ℕ → Order → Type 0

@@ -1,11 +1,16 @@
 -- Sets of items, by the items' positions in their list. A set is a number: the sum of 2 ^ i over the positions i in it.
-use Rattle.std.specs.Prelude.{ℕ, ◌+◌, ◌^◌, ◌==◌, Bool, if◌then◌else◌, List, [], ◌∷◌, bit_or}
+use Rattle.std.specs.Prelude.{ℕ, ◌+◌, ◌-◌, ◌^◌, ◌==◌, Bool, if◌then◌else◌, List, [], ◌∷◌, bit_or}
 use Rattle.std.specs.Int.{bit_at}
 use Rattle.least_order.specs.declared.item.Item.{Item}
+use Rattle.least_order.specs.Items.{most_items}
 
 -- the position is in the set: its bit is set
 abbrev pub is_in : ℕ → ℕ → Bool
 is_in set position = bit_at set position == 1
+
+-- the set of as many items as may be, which is the greatest of these numbers
+abbrev pub greatest_set : ℕ
+greatest_set = 2 ^ most_items - 1
 
 -- the set and the position
 abbrev pub with_position : ℕ → ℕ → ℕ

@@ -10,8 +10,9 @@
 //!
 //! The definitions: `specs/Items` and `Sets` (what shares a variable; sets as numbers), `Sizes` (the size of a set by
 //! its linked parts), `Orders` (orders, their costs, which is first), `Certificates` and `Greedy`. What linked parts
-//! are is said again in `Parts`, with [`parts_are_linked`] as the law that ties the two. `Merging` and `Search` are
-//! what the code keeps on the way, and no public clause names them.
+//! are is said again in `Parts`, with [`parts_are_linked`] as the law that ties the two; [`constant_is_the_limit`] ties
+//! the constant to the definitions. `Merging` and `Search` are what the code keeps on the way, and no public clause
+//! names them.
 #![tactic(auto)]
 
 mod certificate;
@@ -28,5 +29,5 @@ mod tests;
 pub use certificate::{LeastOrder, check_order};
 pub use greedy::greedy_order;
 pub use item::{Item, MOST_ITEMS};
-pub use laws::parts_are_linked;
+pub use laws::{constant_is_the_limit, parts_are_linked};
 pub use least::least_order;

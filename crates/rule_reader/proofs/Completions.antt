@@ -1,12 +1,11 @@
 -- Each state of the machine has a completion by real tokens: one token leads to a state that has one.
-use Rattle.std.proofs.Common.{◌≡◌, ℕ, zero, suc, ◌&&◌, not, Bool, true, false, cond, List, [], ◌∷◌, ◌++◌, length, Option, Some, None, option_map, append_assoc, append-nil, arith, refl, sym, ap, subst, ◌∙◌}
+use Rattle.std.proofs.Common.{◌≡◌, ℕ, zero, suc, ◌&&◌, not, Bool, true, false, cond, List, [], ◌∷◌, ◌++◌, length, Option, Some, None, option_map, append_assoc, append-nil, arith, refl, sym, ap, ◌∙◌}
 use Rattle.med_base.specs.declared.names.MemberName.{MemberName}
-use Rattle.med_base.specs.declared.names.Name.{Name}
 use Rattle.med_base.specs.declared.names.Name.TheVariants as name
 use Rattle.med_prelude.specs.Names.{continues_name, is_truth_word, starts_name}
 use Rattle.rule_reader.specs.Grammar.{IsReal, IsViable, Limits, key_token, rule_tokens}
-use Rattle.rule_reader.specs.Keywords.{keyword_in, keyword_text}
-use Rattle.rule_reader.specs.Machine.{after_key, closed, first_nest, frame_depth, is_deep_not, last_frame, ored, rule_head, step, takes_number, with_action, with_test}
+use Rattle.rule_reader.specs.Keywords.{keyword_text}
+use Rattle.rule_reader.specs.Machine.{after_key, first_nest, frame_depth, is_deep_not, last_frame, ored, rule_head, step, with_action, with_test}
 use Rattle.rule_reader.specs.Naming.{member_name, part_in}
 use Rattle.rule_reader.specs.declared.keyword.ActionWord.TheVariants as acts
 use Rattle.rule_reader.specs.declared.keyword.EventWord.TheVariants as begins

@@ -1,15 +1,15 @@
 -- The machine fits the grammar, with the limits of a rule and without any, and so what it reads is exact.
-use Rattle.std.proofs.Common.{◌≡◌, ℕ, ◌&&◌, ◌≤◌, ◌<◌, not, nat_lt, Bool, true, false, cond, List, [], ◌∷◌, ◌++◌, ◌⊎◌, length, Option, Some, None, option_map, Result, Ok, Err, append_assoc, arith, refl, sym, ap, subst, inl, inr, ◌∙◌}
+use Rattle.std.proofs.Common.{◌≡◌, ℕ, ◌&&◌, ◌≤◌, not, nat_lt, Bool, true, false, cond, List, [], ◌∷◌, ◌++◌, ◌⊎◌, length, Option, Some, None, option_map, Result, Ok, Err, append_assoc, arith, refl, sym, ap, subst, inl, inr, ◌∙◌}
 use Rattle.std.proofs.lemmas.Bool.Decides.{nat_tests}
 use Rattle.std.proofs.lemmas.List.{map-append}
 use Rattle.med_prelude.specs.Reading.{or_at}
 use Rattle.text_reading.specs.Checks.{broken_at}
-use Rattle.text_reading.specs.Lexing.{AreTokensOf, Lexeme, lexeme, lexemes_from, tokens}
+use Rattle.text_reading.specs.Lexing.{AreTokensOf, Lexeme, lexemes_from, tokens}
 use Rattle.text_reading.specs.Machines.{reading_by, state_after}
 use Rattle.text_reading.specs.declared.checks.Broken.{Broken}
 use Rattle.text_reading.proofs.LexingLaws as lexing
 use Rattle.text_reading.proofs.MachineLaws as machine
-use Rattle.rule_reader.specs.Grammar.{BreaksAt, IsReal, IsRule, IsViable, Limits, PassesAt, Spells, no_limits, rule_limits, rule_tokens}
+use Rattle.rule_reader.specs.Grammar.{BreaksAt, IsReal, IsRule, Limits, PassesAt, Spells, no_limits, rule_limits, rule_tokens}
 use Rattle.rule_reader.specs.Keywords.{keyword_in}
 use Rattle.rule_reader.specs.Laws.{IsRefused}
 use Rattle.rule_reader.specs.Machine.{after_key, finished_rule, frame_depth, is_deep_not, is_past, next, not_the_grammar, over_a_limit, step, takes_number, told_step, under_not, with_number}
@@ -20,7 +20,7 @@ use Rattle.rule_reader.specs.declared.keyword.Keyword.TheVariants as key
 use Rattle.rule_reader.specs.declared.rule.Rule.{Rule}
 use Rattle.rule_reader.specs.declared.state.Pending.TheVariants as pending
 use Rattle.rule_reader.specs.declared.state.State.{State}
-use Rattle.rule_reader.specs.declared.state.State.TheVariants.{Start, EventDue, EventRead, Called, ArgumentDue, CommaDue, SecondDue, CloseDue, TestDue, OpDue, RightDue, TestRead, ActionDue, ActionRead}
+use Rattle.rule_reader.specs.declared.state.State.TheVariants.{Start, SecondDue, CloseDue, TestDue, OpDue, RightDue, TestRead, ActionRead}
 use Rattle.rule_reader.specs.declared.token.Token.{Token}
 use Rattle.rule_reader.specs.declared.token.Token.TheVariants as token
 use Rattle.rule_reader.proofs.Completions.{lives}

@@ -1,7 +1,6 @@
 -- Nothing takes bytes that are no token.
-use Rattle.std.proofs.Common.{◌≡◌, ℕ, None, Err, refl}
-use Rattle.rule_reader.specs.Grammar.{Limits}
-use Rattle.rule_reader.specs.Machine.{not_the_grammar, step, told_step}
+use Rattle.std.proofs.Common.{◌≡◌, Err, refl}
+use Rattle.rule_reader.specs.Machine.{not_the_grammar, told_step}
 use Rattle.rule_reader.specs.declared.state.State.{State}
 use Rattle.rule_reader.specs.declared.state.State.TheVariants.{Start, EventDue, EventRead, Called, ArgumentDue, CommaDue, SecondDue, CloseDue, TestDue, OpDue, RightDue, TestRead, ActionDue, ActionRead}
 use Rattle.rule_reader.specs.declared.token.Token.TheVariants as token

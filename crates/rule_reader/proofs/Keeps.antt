@@ -1,13 +1,12 @@
 -- Each step of the machine reads its token, and keeps what holds of a state.
-use Rattle.std.proofs.Common.{◌≡◌, ℕ, ◌+◌, ◌&&◌, not, Bool, true, false, cond, List, [], ◌∷◌, ◌++◌, Option, Some, None, option_map, append_assoc, append-nil, arith, refl, sym, ap, subst, ◌∙◌}
-use Rattle.med_base.specs.declared.names.MemberName.{MemberName}
+use Rattle.std.proofs.Common.{◌≡◌, ℕ, ◌+◌, ◌&&◌, not, Bool, true, false, cond, List, [], ◌∷◌, ◌++◌, Option, Some, None, option_map, append_assoc, append-nil, refl, sym, ap, subst, ◌∙◌}
 use Rattle.med_base.specs.declared.names.Name.{Name}
 use Rattle.med_base.specs.declared.names.Name.TheVariants as name
 use Rattle.text_reading.specs.Runs.{name_in}
-use Rattle.rule_reader.specs.Grammar.{IsAmount, IsCondition, IsEvent, IsNamed, Limits, amount_tokens, call_tokens, condition_tokens, event_tokens, is_counted, is_opened, key_token, one_part, part_token}
+use Rattle.rule_reader.specs.Grammar.{IsAmount, IsCondition, IsEvent, Limits, amount_tokens, condition_tokens, event_tokens, is_counted, is_opened, key_token, part_token}
 use Rattle.rule_reader.specs.Keywords.{keyword_in}
-use Rattle.rule_reader.specs.Machine.{action_argument, active_argument, after_key, after_and, after_or, closed, closed_group, event_argument, fired_argument, first_nest, frame_depth, in_group, is_deep_not, is_not, is_past, last_frame, left_argument, next, ored, right_argument, rule_head, step, takes_number, under_not, with_argument, with_method, with_number, with_test}
-use Rattle.rule_reader.specs.Naming.{part_in, part_text}
+use Rattle.rule_reader.specs.Machine.{action_argument, active_argument, after_key, after_and, after_or, closed, closed_group, event_argument, fired_argument, first_nest, frame_depth, in_group, is_deep_not, last_frame, left_argument, ored, right_argument, rule_head, step, takes_number, under_not, with_argument, with_method, with_number, with_test}
+use Rattle.rule_reader.specs.Naming.{IsNamed, part_in}
 use Rattle.rule_reader.specs.declared.keyword.ActionWord.{ActionWord}
 use Rattle.rule_reader.specs.declared.keyword.ActionWord.TheVariants as acts
 use Rattle.rule_reader.specs.declared.keyword.EventWord.{EventWord}
@@ -38,9 +37,9 @@ use Rattle.rule_reader.specs.declared.state.State.TheVariants.{Start, EventDue, 
 use Rattle.rule_reader.specs.declared.token.Token.{Token}
 use Rattle.rule_reader.specs.declared.token.Token.TheVariants as token
 use Rattle.rule_reader.proofs.KeywordLaws.{keyword_in_text}
-use Rattle.rule_reader.proofs.NamingLaws.{part_in_text}
+use Rattle.rule_reader.proofs.NamingLaws.{part_in_text, part_named}
 use Rattle.rule_reader.proofs.Pieces.{Parts, action_push, action_sound, depth_push, frames_pop, frames_push, group_condition, group_is_test, last_of, not_push, nots_push, ored_condition, ored_tokens, outer_push, rule_comma, test_sound, test_tokens, tokens_group}
-use Rattle.rule_reader.proofs.Spelled.{IsCallee, IsClosed, IsFrame, IsHead, IsNest, IsPending, IsPhrase, IsSound, IsTested, and_tokens, callee_tokens, due_tokens, event_front, frame_tokens, nest_tokens, not_tokens, or_tokens, outer_tokens, rule_front, spelled, tested_tokens, unclosed}
+use Rattle.rule_reader.proofs.Spelled.{IsCallee, IsClosed, IsHead, IsNest, IsPending, IsPhrase, IsSound, IsTested, and_tokens, due_tokens, event_front, frame_tokens, nest_tokens, not_tokens, or_tokens, outer_tokens, rule_front, spelled, tested_tokens, unclosed}
 
 -- tokens one after the other
 
@@ -245,10 +244,6 @@ module _ (limits : Limits) where
 
   -- the first argument of a call
 
-  -- the word names it
-  named : (w : List ℕ) (x : Name) → part_in w ≡ Some x → IsNamed x
-  named w x e = ap part_in (sym (part_in_text w x e)) ∙ e
-
   event_goes : (e : EventWord) (x : Name) → IsNamed x → Goes (ArgumentDue (callee.Event e)) (part_token x) (event_argument e (Some x))
   event_goes begins.Opened x h = where_so _ (part_token x) (is_opened x) (CloseDue (phrase.Event (event.Opened x))) (λ o. ((h, o), refl)) refl
   event_goes begins.Closed x h = to _ (part_token x) (CloseDue (phrase.Event (event.Closed x))) (h, refl) refl
@@ -295,7 +290,7 @@ module _ (limits : Limits) where
     where
       by : (m : Option Name) → part_in w ≡ m → Goes s (token.Word w) (argument m)
       by None e = rw none (nowhere s (token.Word w))
-      by (Some x) e = subst (λ v. Goes s (token.Word v) (argument (Some x))) (sym (part_in_text w x e)) (goes x (named w x e))
+      by (Some x) e = subst (λ v. Goes s (token.Word v) (argument (Some x))) (sym (part_in_text w x e)) (goes x (part_named w x e))
 
   fired_goes : (n : Nest) (w : List ℕ) → IsNest limits n → Goes (ArgumentDue (callee.Test n tests.Fired)) (token.Word w) (fired_argument n (name_in w))
   fired_goes n w h = by (name_in w) refl

@@ -1,5 +1,5 @@
 -- A word of the language is written in one way, and read as that word.
-use Rattle.std.proofs.Common.{◌≡◌, ℕ, Bool, true, false, cond, List, Option, Some, None, nat_eq, codes, refl, sym, subst, ap, ◌∙◌}
+use Rattle.std.proofs.Common.{◌≡◌, ℕ, Bool, true, false, cond, List, Option, Some, None, nat_eq, refl, ap, ◌∙◌}
 use Rattle.std.specs.Cmp.Lexicographic.{pointwise}
 use Rattle.std.proofs.lemmas.Slice.Eq.{bytes_eq-Decides}
 use Rattle.rule_reader.specs.Keywords.{action_text, action_word, event_text, event_word, keyword_in, keyword_text, method_text, method_word, plain_word, test_text, test_word}

@@ -1,5 +1,5 @@
 -- Numbers that are cut off past the greatest of a rule.
-use Rattle.std.proofs.Common.{◌≡◌, ℕ, suc, ◌+◌, ◌*◌, ◌-◌, ◌<◌, ◌≤◌, min, length, drop, get_or, List, [], ◌∷◌, arith}
+use Rattle.std.proofs.Common.{◌≡◌, ℕ, suc, ◌+◌, ◌*◌, ◌-◌, ◌<◌, min, length, drop, get_or, List, [], ◌∷◌, arith}
 use Rattle.std.proofs.Math.Seq.{drop-cons}
 use Rattle.rule_reader.specs.Naming.{number_after}
 

@@ -1,5 +1,5 @@
 -- What is added to what was read: tests, frames and actions.
-use Rattle.std.proofs.Common.{◌≡◌, ℕ, zero, suc, ◌+◌, Bool, true, false, List, [], ◌∷◌, ◌++◌, Option, Some, None, append_assoc, append-nil, arith, refl, sym, ap, subst, ◌∙◌}
+use Rattle.std.proofs.Common.{◌≡◌, ℕ, zero, suc, ◌+◌, true, List, [], ◌∷◌, ◌++◌, Option, Some, None, append_assoc, append-nil, arith, refl, sym, ap, subst, ◌∙◌}
 use Rattle.std.specs.List.{AllByRecursion}
 use denote.Hole.Carrier.{hidden}
 use Rattle.rule_reader.specs.Grammar.{IsAction, IsCondition, IsFull, IsRule, Limits, action_tokens, actions_tokens, comma_actions, condition_tokens, event_tokens, is_conjunction, is_test, key_token, no_limits, rule_tokens}
@@ -9,7 +9,7 @@ use Rattle.rule_reader.specs.declared.nesting.Frame.{Frame}
 use Rattle.rule_reader.specs.declared.nesting.Nest.{Nest}
 use Rattle.rule_reader.specs.declared.nesting.Tested.{Tested}
 use Rattle.rule_reader.specs.declared.rule.Action.{Action}
-use Rattle.rule_reader.specs.declared.rule.Condition.{Condition, Not', Group', And', Or', True, Active, Fired, Compares, end_of-Condition, more_of-Condition}
+use Rattle.rule_reader.specs.declared.rule.Condition.{Condition, Or'}
 use Rattle.rule_reader.specs.declared.rule.Condition.TheVariants as condition
 use Rattle.rule_reader.specs.declared.rule.Condition.TheBlock.{hidden-the_row-Condition-0}
 use Rattle.rule_reader.specs.declared.rule.Rule.{Rule}

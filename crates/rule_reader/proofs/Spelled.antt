@@ -1,9 +1,10 @@
 -- What a state of the machine has read, and what holds of it.
-use Rattle.std.proofs.Common.{◌≡◌, ℕ, zero, suc, ◌+◌, ◌<◌, Bool, true, false, List, [], ◌∷◌, ◌++◌, Option, Some, None}
+use Rattle.std.proofs.Common.{◌≡◌, ℕ, zero, suc, ◌+◌, true, List, [], ◌∷◌, ◌++◌, Option, Some, None}
 use Rattle.std.specs.List.{AllByRecursion}
 use Rattle.med_base.specs.declared.names.Name.TheVariants as name
-use Rattle.rule_reader.specs.Grammar.{IsAction, IsAmount, IsCondition, IsEvent, IsNamed, IsRule, Limits, action_tokens, amount_tokens, condition_tokens, event_tokens, is_conjunction, is_counted, is_test, key_token, part_token, rule_tokens}
+use Rattle.rule_reader.specs.Grammar.{IsAction, IsAmount, IsCondition, IsEvent, IsRule, Limits, action_tokens, amount_tokens, condition_tokens, event_tokens, is_conjunction, is_counted, is_test, key_token, part_token, rule_tokens}
 use Rattle.rule_reader.specs.Machine.{frame_depth}
+use Rattle.rule_reader.specs.Naming.{IsNamed}
 use Rattle.rule_reader.specs.declared.keyword.EventWord.TheVariants as begins
 use Rattle.rule_reader.specs.declared.keyword.TestWord.TheVariants as tests
 use Rattle.rule_reader.specs.declared.keyword.ActionWord.TheVariants as acts

@@ -5,10 +5,9 @@ use denote.Hole.Carrier.{hidden}
 use Rattle.med_base.specs.declared.names.Name.{Name}
 use Rattle.med_base.specs.declared.names.Name.TheVariants as name
 use Rattle.text_reading.specs.Machines.{state_after}
-use Rattle.text_reading.specs.Runs.{name_in}
-use Rattle.rule_reader.specs.Grammar.{IsAction, IsAmount, IsCondition, IsEvent, IsFull, IsNamed, IsRule, Limits, action_tokens, actions_tokens, amount_tokens, comma_actions, condition_tokens, event_tokens, is_conjunction, is_counted, is_opened, is_test, key_token, part_token, rule_tokens}
-use Rattle.rule_reader.specs.Machine.{action_argument, active_argument, anded, after_and, after_key, after_or, event_argument, fired_argument, first_nest, frame_depth, in_group, is_deep_not, last_frame, left_argument, negated, new_frame, ored, right_argument, rule_head, step, under_not, with_action, with_argument, with_test}
-use Rattle.rule_reader.specs.Naming.{part_in, part_text}
+use Rattle.rule_reader.specs.Grammar.{IsAction, IsAmount, IsCondition, IsEvent, IsFull, IsRule, Limits, action_tokens, actions_tokens, amount_tokens, comma_actions, condition_tokens, event_tokens, is_conjunction, is_counted, is_opened, is_test, key_token, part_token, rule_tokens}
+use Rattle.rule_reader.specs.Machine.{action_argument, active_argument, anded, after_and, after_key, after_or, event_argument, fired_argument, first_nest, frame_depth, in_group, is_deep_not, left_argument, negated, ored, right_argument, rule_head, step, under_not, with_action, with_argument, with_test}
+use Rattle.rule_reader.specs.Naming.{part_text}
 use Rattle.rule_reader.specs.declared.keyword.ActionWord.TheVariants as acts
 use Rattle.rule_reader.specs.declared.keyword.EventWord.TheVariants as begins
 use Rattle.rule_reader.specs.declared.keyword.Keyword.{Keyword}
@@ -37,6 +36,7 @@ use Rattle.rule_reader.specs.declared.state.State.TheVariants.{Start, EventDue, 
 use Rattle.rule_reader.specs.declared.token.Token.{Token}
 use Rattle.rule_reader.specs.declared.token.Token.TheVariants as token
 use Rattle.rule_reader.proofs.KeywordLaws.{keyword_read}
+use Rattle.rule_reader.proofs.NamingLaws.{part_read}
 use Rattle.rule_reader.proofs.Pieces.{last_push}
 
 module _ (limits : Limits) where
@@ -80,32 +80,32 @@ module _ (limits : Limits) where
 
   event_run : (e : Event) (rest : List Token) → IsEvent limits e → state_after (step limits) EventDue (event_tokens e ++ rest) ≡ state_after (step limits) (EventRead e) rest
   event_run (event.Opened x) rest h =
-      key_call EventDue (key.Begins begins.Opened) (callee.Event begins.Opened) x (CloseDue (phrase.Event (event.Opened x))) (token.Close ∷ rest) (ap (after_key EventDue) (keyword_read (key.Begins begins.Opened))) (ap (event_argument begins.Opened) h.0 ∙ when_so (is_opened x) _ h.1)
+      key_call EventDue (key.Begins begins.Opened) (callee.Event begins.Opened) x (CloseDue (phrase.Event (event.Opened x))) (token.Close ∷ rest) (ap (after_key EventDue) (keyword_read (key.Begins begins.Opened))) (ap (event_argument begins.Opened) (part_read x h.0) ∙ when_so (is_opened x) _ h.1)
   event_run (event.Closed x) rest h =
-      key_call EventDue (key.Begins begins.Closed) (callee.Event begins.Closed) x (CloseDue (phrase.Event (event.Closed x))) (token.Close ∷ rest) (ap (after_key EventDue) (keyword_read (key.Begins begins.Closed))) (ap (event_argument begins.Closed) h)
+      key_call EventDue (key.Begins begins.Closed) (callee.Event begins.Closed) x (CloseDue (phrase.Event (event.Closed x))) (token.Close ∷ rest) (ap (after_key EventDue) (keyword_read (key.Begins begins.Closed))) (ap (event_argument begins.Closed) (part_read x h))
   event_run (event.Error m) rest h =
-      key_call EventDue (key.Begins begins.Error) (callee.Event begins.Error) (name.Member m) (CloseDue (phrase.Event (event.Error m))) (token.Close ∷ rest) (ap (after_key EventDue) (keyword_read (key.Begins begins.Error))) (ap (event_argument begins.Error) h)
+      key_call EventDue (key.Begins begins.Error) (callee.Event begins.Error) (name.Member m) (CloseDue (phrase.Event (event.Error m))) (token.Close ∷ rest) (ap (after_key EventDue) (keyword_read (key.Begins begins.Error))) (ap (event_argument begins.Error) (part_read (name.Member m) h))
   event_run (event.Timeout m n) rest h =
-      key_call EventDue (key.Begins begins.Timeout) (callee.Event begins.Timeout) (name.Member m) (CommaDue (pending.Timeout m)) (token.Comma ∷ token.Number n ∷ token.Close ∷ rest) (ap (after_key EventDue) (keyword_read (key.Begins begins.Timeout))) (ap (event_argument begins.Timeout) h.0)
+      key_call EventDue (key.Begins begins.Timeout) (callee.Event begins.Timeout) (name.Member m) (CommaDue (pending.Timeout m)) (token.Comma ∷ token.Number n ∷ token.Close ∷ rest) (ap (after_key EventDue) (keyword_read (key.Begins begins.Timeout))) (ap (event_argument begins.Timeout) (part_read (name.Member m) h.0))
       ∙ one (SecondDue (pending.Timeout m)) (token.Number n) (CloseDue (phrase.Event (event.Timeout m n))) (token.Close ∷ rest) (stands_too (limits.may_stand n) _ h.1)
   event_run (event.Threshold x n) rest h =
-      key_call EventDue (key.Begins begins.Threshold) (callee.Event begins.Threshold) x (CommaDue (pending.Threshold x)) (token.Comma ∷ token.Number n ∷ token.Close ∷ rest) (ap (after_key EventDue) (keyword_read (key.Begins begins.Threshold))) (ap (event_argument begins.Threshold) h.0 ∙ when_so (is_counted x) _ h.1)
+      key_call EventDue (key.Begins begins.Threshold) (callee.Event begins.Threshold) x (CommaDue (pending.Threshold x)) (token.Comma ∷ token.Number n ∷ token.Close ∷ rest) (ap (after_key EventDue) (keyword_read (key.Begins begins.Threshold))) (ap (event_argument begins.Threshold) (part_read x h.0) ∙ when_so (is_counted x) _ h.1)
       ∙ one (SecondDue (pending.Threshold x)) (token.Number n) (CloseDue (phrase.Event (event.Threshold x n))) (token.Close ∷ rest) (stands_too (limits.may_stand n) _ h.2)
   event_run (event.OutOfMemory j) rest h =
-      key_call EventDue (key.Begins begins.OutOfMemory) (callee.Event begins.OutOfMemory) (name.Join j) (CloseDue (phrase.Event (event.OutOfMemory j))) (token.Close ∷ rest) (ap (after_key EventDue) (keyword_read (key.Begins begins.OutOfMemory))) (ap (event_argument begins.OutOfMemory) h)
+      key_call EventDue (key.Begins begins.OutOfMemory) (callee.Event begins.OutOfMemory) (name.Join j) (CloseDue (phrase.Event (event.OutOfMemory j))) (token.Close ∷ rest) (ap (after_key EventDue) (keyword_read (key.Begins begins.OutOfMemory))) (ap (event_argument begins.OutOfMemory) (part_read (name.Join j) h))
 
   -- conditions
 
   left_run : (n : Nest) (a : Amount) (rest : List Token) → IsAmount limits a → state_after (step limits) (TestDue n) (amount_tokens a ++ rest) ≡ state_after (step limits) (OpDue n a) rest
   left_run n (amount.Number k) rest h = one (TestDue n) (token.Number k) (OpDue n (amount.Number k)) rest (stands (limits.may_stand k) _ h)
   left_run n (amount.Count x) rest h =
-      key_call (TestDue n) (key.Tests tests.Count) (callee.Test n tests.Count) x (CloseDue (phrase.Left n (amount.Count x))) (token.Close ∷ rest) (test_key n (key.Tests tests.Count) (Called (callee.Test n tests.Count)) refl (and_false _)) (ap (left_argument n) h.0 ∙ when_so (is_counted x) _ h.1)
+      key_call (TestDue n) (key.Tests tests.Count) (callee.Test n tests.Count) x (CloseDue (phrase.Left n (amount.Count x))) (token.Close ∷ rest) (test_key n (key.Tests tests.Count) (Called (callee.Test n tests.Count)) refl (and_false _)) (ap (left_argument n) (part_read x h.0) ∙ when_so (is_counted x) _ h.1)
 
   right_run : (n : Nest) (left : Amount) (o : NumberOp) (a : Amount) (rest : List Token) → IsAmount limits a
       → state_after (step limits) (RightDue n left o) (amount_tokens a ++ rest) ≡ state_after (step limits) (TestRead (with_test n (condition.Compares left o a))) rest
   right_run n left o (amount.Number k) rest h = one (RightDue n left o) (token.Number k) (TestRead (with_test n (condition.Compares left o (amount.Number k)))) rest (stands (limits.may_stand k) _ h)
   right_run n left o (amount.Count x) rest h =
-      key_call (RightDue n left o) (key.Tests tests.Count) (callee.Right n left o) x (CloseDue (phrase.Test n (condition.Compares left o (amount.Count x)))) (token.Close ∷ rest) (ap (after_key (RightDue n left o)) (keyword_read (key.Tests tests.Count))) (ap (right_argument n left o) h.0 ∙ when_so (is_counted x) _ h.1)
+      key_call (RightDue n left o) (key.Tests tests.Count) (callee.Right n left o) x (CloseDue (phrase.Test n (condition.Compares left o (amount.Count x)))) (token.Close ∷ rest) (ap (after_key (RightDue n left o)) (keyword_read (key.Tests tests.Count))) (ap (right_argument n left o) (part_read x h.0) ∙ when_so (is_counted x) _ h.1)
 
   negated_more : (n : ℕ) (c : Condition) → negated (n + 1) c ≡ negated n (condition.Not c)
   negated_more zero c = refl
@@ -232,7 +232,7 @@ module _ (limits : Limits) where
 
   active_runs : (m : _) → TestRuns (condition.Active m)
   active_runs m n rest h =
-      key_call (TestDue n) (key.Tests tests.Active) (callee.Test n tests.Active) (name.Member m) (CloseDue (phrase.Test n (condition.Active m))) (token.Close ∷ rest) (test_key n (key.Tests tests.Active) (Called (callee.Test n tests.Active)) refl (and_false _)) (ap (active_argument n) h)
+      key_call (TestDue n) (key.Tests tests.Active) (callee.Test n tests.Active) (name.Member m) (CloseDue (phrase.Test n (condition.Active m))) (token.Close ∷ rest) (test_key n (key.Tests tests.Active) (Called (callee.Test n tests.Active)) refl (and_false _)) (ap (active_argument n) (part_read (name.Member m) h))
 
   fired_runs : (r : List ℕ) → TestRuns (condition.Fired r)
   fired_runs r n rest h =
@@ -261,14 +261,14 @@ module _ (limits : Limits) where
 
   action_run : (r : Rule) (a : Action) (rest : List Token) → IsAction limits a → state_after (step limits) (ActionDue r) (action_tokens a ++ rest) ≡ state_after (step limits) (ActionRead (with_action r a)) rest
   action_run r (action.Activate m) rest h =
-      key_call (ActionDue r) (key.Acts acts.Activate) (callee.Act r acts.Activate) (name.Member m) (CloseDue (phrase.Act r (action.Activate m))) (token.Close ∷ rest) (ap (after_key (ActionDue r)) (keyword_read (key.Acts acts.Activate))) (ap (action_argument r acts.Activate) h)
+      key_call (ActionDue r) (key.Acts acts.Activate) (callee.Act r acts.Activate) (name.Member m) (CloseDue (phrase.Act r (action.Activate m))) (token.Close ∷ rest) (ap (after_key (ActionDue r)) (keyword_read (key.Acts acts.Activate))) (ap (action_argument r acts.Activate) (part_read (name.Member m) h))
   action_run r (action.Deactivate m) rest h =
-      key_call (ActionDue r) (key.Acts acts.Deactivate) (callee.Act r acts.Deactivate) (name.Member m) (CloseDue (phrase.Act r (action.Deactivate m))) (token.Close ∷ rest) (ap (after_key (ActionDue r)) (keyword_read (key.Acts acts.Deactivate))) (ap (action_argument r acts.Deactivate) h)
+      key_call (ActionDue r) (key.Acts acts.Deactivate) (callee.Act r acts.Deactivate) (name.Member m) (CloseDue (phrase.Act r (action.Deactivate m))) (token.Close ∷ rest) (ap (after_key (ActionDue r)) (keyword_read (key.Acts acts.Deactivate))) (ap (action_argument r acts.Deactivate) (part_read (name.Member m) h))
   action_run r (action.Method j m) rest h =
-      key_call (ActionDue r) (key.Acts acts.Method) (callee.Act r acts.Method) (name.Join j) (CommaDue (pending.Method r j)) (token.Comma ∷ key_token (key.Sets m) ∷ token.Close ∷ rest) (ap (after_key (ActionDue r)) (keyword_read (key.Acts acts.Method))) (ap (action_argument r acts.Method) h)
+      key_call (ActionDue r) (key.Acts acts.Method) (callee.Act r acts.Method) (name.Join j) (CommaDue (pending.Method r j)) (token.Comma ∷ key_token (key.Sets m) ∷ token.Close ∷ rest) (ap (after_key (ActionDue r)) (keyword_read (key.Acts acts.Method))) (ap (action_argument r acts.Method) (part_read (name.Join j) h))
       ∙ one (SecondDue (pending.Method r j)) (key_token (key.Sets m)) (CloseDue (phrase.Act r (action.Method j m))) (token.Close ∷ rest) (ap (after_key (SecondDue (pending.Method r j))) (keyword_read (key.Sets m)))
   action_run r (action.Quota j n) rest h =
-      key_call (ActionDue r) (key.Acts acts.Quota) (callee.Act r acts.Quota) (name.Join j) (CommaDue (pending.Quota r j)) (token.Comma ∷ token.Number n ∷ token.Close ∷ rest) (ap (after_key (ActionDue r)) (keyword_read (key.Acts acts.Quota))) (ap (action_argument r acts.Quota) h.0)
+      key_call (ActionDue r) (key.Acts acts.Quota) (callee.Act r acts.Quota) (name.Join j) (CommaDue (pending.Quota r j)) (token.Comma ∷ token.Number n ∷ token.Close ∷ rest) (ap (after_key (ActionDue r)) (keyword_read (key.Acts acts.Quota))) (ap (action_argument r acts.Quota) (part_read (name.Join j) h.0))
       ∙ one (SecondDue (pending.Quota r j)) (token.Number n) (CloseDue (phrase.Act r (action.Quota j n))) (token.Close ∷ rest) (stands_too (limits.may_stand n) _ h.1)
   action_run r action.Replan rest h = one (ActionDue r) (key_token key.Replan) (ActionRead (with_action r action.Replan)) rest (ap (after_key (ActionDue r)) (keyword_read key.Replan))
   action_run r action.Stop rest h = one (ActionDue r) (key_token key.Stop) (ActionRead (with_action r action.Stop)) rest (ap (after_key (ActionDue r)) (keyword_read key.Stop))

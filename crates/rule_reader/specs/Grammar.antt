@@ -1,5 +1,5 @@
 -- The grammar of rules: how a rule is spelled, what a whole rule is under limits, and where tokens break the grammar.
-use Rattle.std.specs.Prelude.{◌≡◌, ℕ, ◌+◌, nat_le, nat_lt, Bool, true, false, List, [], ◌∷◌, ◌++◌, length, Option, Some, None}
+use Rattle.std.specs.Prelude.{◌≡◌, ℕ, ◌+◌, nat_le, nat_lt, Bool, true, false, List, [], ◌∷◌, ◌++◌, length, Some}
 use Rattle.std.specs.List.{AllByRecursion}
 use Rattle.med_prelude.specs.Texts.{Bytes}
 use Rattle.med_base.specs.declared.names.Name.{Name}
@@ -8,7 +8,7 @@ use Rattle.text_reading.specs.Grammars as grammar
 use Rattle.text_reading.specs.Lexing.{Lexeme, lexeme, tokens}
 use Rattle.text_reading.specs.Runs.{name_in}
 use Rattle.rule_reader.specs.Keywords.{keyword_text}
-use Rattle.rule_reader.specs.Naming.{part_in, part_text}
+use Rattle.rule_reader.specs.Naming.{IsNamed, part_text}
 use Rattle.rule_reader.specs.Tokens.{most_number, token_at}
 use Rattle.rule_reader.specs.declared.keyword.EventWord.TheVariants as begins
 use Rattle.rule_reader.specs.declared.keyword.TestWord.TheVariants as tests
@@ -104,10 +104,6 @@ deepest = 16
 
 abbrev pub rule_limits : Limits
 rule_limits = record { may_nest = λ depth. nat_lt depth deepest; may_stand = λ n. nat_le n most_number }
-
--- the word for it names it: its numbers go from 1 to 999,999
-abbrev pub IsNamed : Name → Type 0
-IsNamed x = part_in (part_text x) ≡ Some x
 
 abbrev pub is_opened : Name → Bool
 is_opened (name.Member m) = true

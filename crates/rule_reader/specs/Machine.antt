@@ -1,5 +1,5 @@
 -- The grammar of rules as a machine that takes one token after the other.
-use Rattle.std.specs.Prelude.{ℕ, zero, suc, ◌+◌, ◌&&◌, not, nat_le, nat_lt, Bool, true, false, List, [], ◌∷◌, ◌++◌, Option, Some, None, option_map, Result, Ok, Err, if◌then◌else◌}
+use Rattle.std.specs.Prelude.{ℕ, zero, suc, ◌+◌, ◌&&◌, not, Bool, true, false, List, [], ◌∷◌, ◌++◌, Option, Some, None, option_map, Result, Err, if◌then◌else◌}
 use Rattle.med_prelude.specs.Reading.{or_at}
 use Rattle.med_prelude.specs.Texts.{Bytes}
 use Rattle.med_base.specs.declared.names.Name.{Name}

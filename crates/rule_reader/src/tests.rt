@@ -35,6 +35,7 @@ fn refuses_the_first_token_that_continues_nothing(rt: HostRuntime) {
         ("when opened(f1.)", 12),
         ("when closed(a1.2)", 12),
         ("when closed(a1.)", 12),
+        ("when closed(a01)", 12),
         ("when closed(a1.2.3.4)", 12),
         ("when closed(a1.0.1)", 12),
         ("when closed(a1.02.1)", 12),
@@ -109,8 +110,8 @@ fn reads_what_is_a_rule(rt: HostRuntime) {
     }
 }
 
-/// 2^60 is 1152921504606846976. A number past it is refused only where a number may stand, and only if nothing before
-/// it is refused.
+/// 2^60 is 1152921504606846976. A number past it is over the limit only where a number may stand, and only if nothing
+/// before it is refused; where none may, neither may 2^60.
 #[test]
 fn numbers_go_to_their_limit(rt: HostRuntime) {
     let cases = [
@@ -121,15 +122,17 @@ fn numbers_go_to_their_limit(rt: HostRuntime) {
         ("when threshold(j1, 1152921504606846977)", (2, 19)),
         ("when timeout(1152921504606846977", (1, 13)),
         ("when opened(1152921504606846977", (1, 12)),
+        ("when opened(1152921504606846976", (1, 12)),
         ("when opened(f1) if 1152921504606846977 true", (2, 19)),
         ("when opened(f1) if 1 < 1152921504606846977", (2, 23)),
         ("when opened(f1) if true 1152921504606846977", (1, 24)),
+        ("when opened(f1) if true 1152921504606846976", (1, 24)),
         (
             "when opened(f1) if true then quota(j1, 1152921504606846977)",
             (2, 39),
         ),
         (
-            "when opened(f1) if true then method(j1, 1152921504606846977)",
+            "when opened(f1) if true then method(j1, 1152921504606846976)",
             (1, 40),
         ),
         ("when opened(f1) if true then 1152921504606846977", (1, 29)),
@@ -182,6 +185,35 @@ fn conditions_are_nested_to_their_limit(rt: HostRuntime) -> Result<(), Fail> {
             Some(told),
             "{levels} {back}"
         );
+    }
+    let alike = [
+        ("when opened(f1) if (((((((((((((((((true", 35),
+        (
+            "when opened(f1) if not not not not not not not not not not not not not not not not not true",
+            83,
+        ),
+    ];
+    for (text, at) in alike {
+        assert_eq!(rt;
+            refusal(&rt, alloc, text.as_bytes()),
+            Some((2, at)),
+            "{text}"
+        );
+    }
+    Ok(())
+}
+
+/// A rule's name of 64 bytes is read; one of 65 is none, and is refused where it begins.
+#[test]
+fn names_of_rules_have_64_bytes_at_most(rt: HostRuntime) -> Result<(), Fail> {
+    let alloc = rt.alloc();
+    for (bytes, told) in [(64, None), (65, Some((1, 25)))] {
+        let mut text = Vec::from_slice(alloc, b"when opened(f1) if fired(".as_slice())?;
+        for _ in 0..bytes {
+            text.push(b'r')?;
+        }
+        text.extend_from_slice(b") then stop".as_slice())?;
+        assert_eq!(rt; refusal(&rt, alloc, text.as_slice()), told, "{bytes}");
     }
     Ok(())
 }

@@ -1,6 +1,5 @@
-use Rattle.std.proofs.Common.{length, arith, ap, sym, subst}
-use Rattle.rule_reader.specs.Reading.{GivesRule}
-use Rattle.rule_reader.proofs.ReadingLaws.{keeps_blank, keeps_end, keeps_step, keeps_stuck, step_fits}
+use Rattle.std.proofs.Common.{length, arith, ap}
+use Rattle.rule_reader.proofs.ReadingLaws.{keeps_blank, keeps_step, keeps_stuck, step_fits}
 use Rattle.rule_reader.proofs.reading.read_tokens.Goals as goal
 
 pub loop-first-preserved-then-is_space : goal.loop-first-preserved-then-is_space

@@ -1,7 +1,5 @@
-use Rattle.std.proofs.Common.{◌≡◌, ◌+◌, ◌*◌, ◌-◌, ◌<◌, min, drop, length, get_or, refl, arith, sym, ap, ◌∙◌}
-use Rattle.std.proofs.Math.Seq.{drop-cons}
-use Rattle.rule_reader.specs.Naming.{number_after}
-use Rattle.rule_reader.specs.Tokens.{most_number, number_told}
+use Rattle.std.proofs.Common.{◌+◌, arith, ◌∙◌}
+use Rattle.rule_reader.specs.Tokens.{most_number}
 use Rattle.rule_reader.proofs.NumberLaws.{cut_digit}
 use Rattle.rule_reader.proofs.token.number_told.Goals as goal
 

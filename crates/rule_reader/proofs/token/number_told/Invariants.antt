@@ -1,4 +1,4 @@
-use Rattle.std.proofs.Common.{◌≡◌, ◌+◌, ◌^◌, ◌≤◌, min, drop}
+use Rattle.std.proofs.Common.{◌≡◌, ◌+◌, ◌≤◌, min, drop}
 use Rattle.rule_reader.specs.Naming.{number_after}
 use Rattle.rule_reader.specs.Tokens.{most_number, number_told}
 use Rattle.rule_reader.proofs.token.number_told.Given as goal
