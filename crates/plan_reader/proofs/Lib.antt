@@ -1,8 +1,4 @@
 pub mod LocationLaws
-pub mod ShapeLaws
-pub mod TokenLaws
-pub mod TreeReadingLaws
-pub mod TreeLaws
 pub mod ItemLaws
 pub mod FormLaws
 pub mod RefusalLaws

@@ -5,8 +5,8 @@ use Rattle.toml.specs.Data.{Data, Members, get_member, as_table}
 use Rattle.med_prelude.specs.Texts.{Bytes}
 use Rattle.toml_tables.specs.Tables.{has_only, text_at, values_of}
 use Rattle.plan_reader.specs.Entries.{given}
-use Rattle.plan_reader.specs.Machine.{tree_of}
-use Rattle.plan_reader.specs.Shapes.{Shape, joins_of}
+use Rattle.join_trees.specs.Machine.{tree_of}
+use Rattle.join_trees.specs.Shapes.{Shape, joins_of}
 use Rattle.plan_reader.specs.Words.{fragment_number, fragment_of, number_of}
 use Rattle.plan_reader.specs.declared.fragments.WrittenFragment.{WrittenFragment}
 use Rattle.plan_reader.specs.declared.plan.Fragment.{Fragment}

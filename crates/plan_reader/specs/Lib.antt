@@ -1,8 +1,5 @@
-pub mod Shapes
 pub mod Locations
 pub mod Faults
-pub mod Tokens
-pub mod Machine
 pub mod Words
 pub mod Entries
 pub mod Items
@@ -12,3 +9,4 @@ pub mod Parts
 pub mod Forms
 pub mod Limits
 pub mod Reading
+pub mod Own

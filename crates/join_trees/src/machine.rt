@@ -1,9 +1,9 @@
 //! The grammar of trees as a machine that takes one token after the other.
 
 ghost use Rattle.std.specs.Prelude.{◌≡◌, IfOk};
-ghost use Rattle.plan_reader.specs.Machine.{finished_tree, start, step, step_in};
-ghost use Rattle.plan_reader.specs.declared.machine.Phase.TheVariants.{Read};
-ghost use Rattle.plan_reader.specs.declared.token.Token.TheVariants as token;
+ghost use Rattle.join_trees.specs.Machine.{finished_tree, start, step, step_in};
+ghost use Rattle.join_trees.specs.declared.machine.Phase.TheVariants.{Read};
+ghost use Rattle.join_trees.specs.declared.token.Token.TheVariants as token;
 
 use crate::stack::{OpenJoin, OpenJoins, Stack};
 use crate::token::Token;

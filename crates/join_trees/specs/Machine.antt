@@ -3,14 +3,14 @@ use Rattle.std.specs.Prelude.{ℕ, Bool, true, false, List, [], ◌∷◌, Optio
 use Rattle.med_prelude.specs.Texts.{Bytes}
 use Rattle.text_reading.specs.Lexing.{lexemes_from, tokens}
 use Rattle.text_reading.specs.Machines.{state_after}
-use Rattle.plan_reader.specs.Shapes.{Shape, tip, joined, only_tree}
-use Rattle.plan_reader.specs.Tokens.{is_padded, lexicon, token_at}
-use Rattle.plan_reader.specs.declared.stack.OpenJoin.{OpenJoin}
-use Rattle.plan_reader.specs.declared.machine.Phase.{Phase}
-use Rattle.plan_reader.specs.declared.machine.Phase.TheVariants.{Due, Named, Read}
-use Rattle.plan_reader.specs.declared.machine.State.{State}
-use Rattle.plan_reader.specs.declared.token.Token.{Token}
-use Rattle.plan_reader.specs.declared.token.Token.TheVariants as token
+use Rattle.join_trees.specs.Shapes.{Shape, tip, joined, only_tree}
+use Rattle.join_trees.specs.Tokens.{is_padded, lexicon, token_at}
+use Rattle.join_trees.specs.declared.stack.OpenJoin.{OpenJoin}
+use Rattle.join_trees.specs.declared.machine.Phase.{Phase}
+use Rattle.join_trees.specs.declared.machine.Phase.TheVariants.{Due, Named, Read}
+use Rattle.join_trees.specs.declared.machine.State.{State}
+use Rattle.join_trees.specs.declared.token.Token.{Token}
+use Rattle.join_trees.specs.declared.token.Token.TheVariants as token
 
 abbrev pub state : Phase → List OpenJoin → List Shape → State
 state phase open trees = record { phase = phase; open_joins = open; trees = trees }

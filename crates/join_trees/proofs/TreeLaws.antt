@@ -4,16 +4,16 @@ use Rattle.std.specs.Prelude.{option_and_then}
 use Rattle.text_reading.specs.Lexing.{AreTokensOf, lexeme, lexemes_from, tokens}
 use Rattle.text_reading.specs.Machines.{state_after}
 use Rattle.text_reading.proofs.LexingLaws as lexing
-use Rattle.plan_reader.specs.Machine.{finished_in, finished_tree, open_join, start, state, step, step_in, tree_from, tree_of}
-use Rattle.plan_reader.specs.Shapes.{Shape, tip, fork}
-use Rattle.plan_reader.specs.Tokens.{is_padded, lexemes_of, lexicon, tree_tokens}
-use Rattle.plan_reader.specs.declared.machine.Phase.{Phase}
-use Rattle.plan_reader.specs.declared.machine.Phase.TheVariants.{Due, Named, Read}
-use Rattle.plan_reader.specs.declared.machine.State.{State}
-use Rattle.plan_reader.specs.declared.stack.OpenJoin.{OpenJoin}
-use Rattle.plan_reader.specs.declared.token.Token.{Token}
-use Rattle.plan_reader.specs.declared.token.Token.TheVariants.{Leaf, Join, Open, Close, Comma, Junk}
-use Rattle.plan_reader.proofs.TokenLaws.{token_fits}
+use Rattle.join_trees.specs.Machine.{finished_in, finished_tree, open_join, start, state, step, step_in, tree_from, tree_of}
+use Rattle.join_trees.specs.Shapes.{Shape, tip, fork}
+use Rattle.join_trees.specs.Tokens.{is_padded, lexemes_of, lexicon, tree_tokens}
+use Rattle.join_trees.specs.declared.machine.Phase.{Phase}
+use Rattle.join_trees.specs.declared.machine.Phase.TheVariants.{Due, Named, Read}
+use Rattle.join_trees.specs.declared.machine.State.{State}
+use Rattle.join_trees.specs.declared.stack.OpenJoin.{OpenJoin}
+use Rattle.join_trees.specs.declared.token.Token.{Token}
+use Rattle.join_trees.specs.declared.token.Token.TheVariants.{Leaf, Join, Open, Close, Comma, Junk}
+use Rattle.join_trees.proofs.TokenLaws.{token_fits}
 
 abbrev read_all : List Token → Option Shape
 read_all ts = option_and_then finished_tree (state_after step start ts)

@@ -1,7 +1,7 @@
 //! Trees of joins.
 
 ghost use Rattle.std.specs.Prelude.{◌≡◌};
-ghost use Rattle.plan_reader.specs.Shapes.{nodes_of, shape_of};
+ghost use Rattle.join_trees.specs.Shapes.{nodes_of, shape_of};
 
 use std::marker::Model;
 
@@ -28,7 +28,7 @@ pub struct Tree {
 
 impl Model for Tree {
     ghost use Rattle.std.specs.Prelude.{◌≡◌};
-    ghost use Rattle.plan_reader.specs.Shapes.{Shape, shape_code, nodes_of, shape_of};
+    ghost use Rattle.join_trees.specs.Shapes.{Shape, shape_code, nodes_of, shape_of};
 
     ghost Value = { Shape };
 

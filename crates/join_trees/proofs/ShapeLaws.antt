@@ -2,10 +2,10 @@
 use Rattle.std.proofs.Common.{◌≡◌, ℕ, suc, ◌+◌, ◌≤◌, List, [], ◌∷◌, ◌++◌, length, reverse, Option, Some, None, append_assoc, append-nil, arith, refl, sym, ap, ◌∙◌}
 use Rattle.std.proofs.lemmas.List.{reverse-append}
 use Rattle.std.specs.Prelude.{option_to_list}
-use Rattle.plan_reader.specs.Shapes.{Shape, tip, fork, all_nodes, first_of, joined, nodes_of, only_tree, shape_of, stack_of, with_node, with_nodes}
-use Rattle.plan_reader.specs.declared.tree.Leaf.{Leaf}
-use Rattle.plan_reader.specs.declared.tree.Node.{Node}
-use Rattle.plan_reader.specs.declared.tree.Node.TheVariants as node
+use Rattle.join_trees.specs.Shapes.{Shape, tip, fork, all_nodes, first_of, joined, nodes_of, only_tree, shape_of, stack_of, with_node, with_nodes}
+use Rattle.join_trees.specs.declared.tree.Leaf.{Leaf}
+use Rattle.join_trees.specs.declared.tree.Node.{Node}
+use Rattle.join_trees.specs.declared.tree.Node.TheVariants as node
 
 with_nodes-append : (ts : List Shape) (ms ns : List Node) → with_nodes ts (ms ++ ns) ≡ with_nodes (with_nodes ts ms) ns
 with_nodes-append ts [] ns = refl

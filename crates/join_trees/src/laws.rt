@@ -3,9 +3,9 @@
 ghost use Rattle.std.specs.Prelude.{◌≡◌, false, Some, List};
 ghost use Rattle.med_prelude.specs.Texts.{Bytes};
 ghost use Rattle.text_reading.specs.Lexing.{AreTokensOf, tokens};
-ghost use Rattle.plan_reader.specs.Machine.{tree_of};
-ghost use Rattle.plan_reader.specs.Shapes.{Shape};
-ghost use Rattle.plan_reader.specs.Tokens.{is_padded, lexemes_of, lexicon, tree_tokens};
+ghost use Rattle.join_trees.specs.Machine.{tree_of};
+ghost use Rattle.join_trees.specs.Shapes.{Shape};
+ghost use Rattle.join_trees.specs.Tokens.{is_padded, lexemes_of, lexicon, tree_tokens};
 
 /// A text is read as a tree exactly where its tokens spell that tree, and no tokens spell two. The tokens of a text stand
 /// in it one after the other, with nothing but spaces between them; a text with a space in front or at its end spells none.

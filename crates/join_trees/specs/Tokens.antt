@@ -8,10 +8,10 @@ use Rattle.text_reading.specs.Lexing.{Lexeme, Lexicon, lexeme, lexemes_from}
 use Rattle.text_reading.specs.Runs.{name_run}
 use Rattle.rule_reader.specs.Naming.{part_in}
 use Rattle.rule_reader.specs.Tokens.{begins_space, ends_space, is_space}
-use Rattle.plan_reader.specs.Shapes.{Shape, tip, fork}
-use Rattle.plan_reader.specs.declared.tree.Leaf.TheVariants as leaf
-use Rattle.plan_reader.specs.declared.token.Token.{Token}
-use Rattle.plan_reader.specs.declared.token.Token.TheVariants as token
+use Rattle.join_trees.specs.Shapes.{Shape, tip, fork}
+use Rattle.join_trees.specs.declared.tree.Leaf.TheVariants as leaf
+use Rattle.join_trees.specs.declared.token.Token.{Token}
+use Rattle.join_trees.specs.declared.token.Token.TheVariants as token
 
 -- a leaf, or a join with its two trees in parentheses and a comma between them
 abbrev pub tree_tokens : Shape → List Token

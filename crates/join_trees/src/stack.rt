@@ -1,7 +1,7 @@
 //! What a reader of trees keeps: the trees that were read, and the joins whose trees are still to come.
 
 ghost use Rattle.std.specs.Prelude.{◌≡◌, ◌==◌, [], ◌∷◌, ◌++◌, length, option_to_list, Some, None, if◌then◌else◌, IfOk, OnOk};
-ghost use Rattle.plan_reader.specs.Shapes.{joined, only_tree, tip};
+ghost use Rattle.join_trees.specs.Shapes.{joined, only_tree, tip};
 
 use crate::tree::{Leaf, Node, Tree};
 use std::alloc::{AllocError, Global};
@@ -16,7 +16,7 @@ pub struct Stack {
 
 impl Model for Stack {
     ghost use Rattle.std.specs.Prelude.{◌≡◌, List, length};
-    ghost use Rattle.plan_reader.specs.Shapes.{Shape, all_nodes, stack_code, stack_of};
+    ghost use Rattle.join_trees.specs.Shapes.{Shape, all_nodes, stack_code, stack_of};
 
     ghost Value = { List Shape };
 
@@ -83,7 +83,7 @@ pub struct OpenJoins {
 
 impl Model for OpenJoins {
     ghost use Rattle.std.specs.Prelude.{List, reverse};
-    ghost use Rattle.plan_reader.specs.declared.stack.OpenJoin.{OpenJoin as AnOpenJoin};
+    ghost use Rattle.join_trees.specs.declared.stack.OpenJoin.{OpenJoin as AnOpenJoin};
 
     ghost Value = { List AnOpenJoin };
 

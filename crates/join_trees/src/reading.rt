@@ -1,7 +1,7 @@
 //! The reader of a tree's text.
 
 ghost use Rattle.std.specs.Prelude.{◌≡◌, IfOk};
-ghost use Rattle.plan_reader.specs.Machine.{advance, start, tree_from, tree_of};
+ghost use Rattle.join_trees.specs.Machine.{advance, start, tree_from, tree_of};
 
 use crate::machine::{State, finished_tree, start, step};
 use crate::token::{is_padded, token_at};

@@ -3,10 +3,10 @@ use Rattle.std.specs.Prelude.{◌≡◌, ℕ, ◌==◌, cond, List, [], ◌∷�
 use Rattle.std.proofs.Common.{append_assoc, append-nil, ap, sym, ◌∙◌}
 use Rattle.std.specs.Coded.{Coded, code_by, coded×, coded_ℕ, coded_list}
 use Rattle.std.specs.List.{filter_map}
-use Rattle.plan_reader.specs.declared.tree.Leaf.{Leaf}
-use Rattle.plan_reader.specs.declared.tree.Leaf.TheVariants as leaf
-use Rattle.plan_reader.specs.declared.tree.Node.{Node}
-use Rattle.plan_reader.specs.declared.tree.Node.TheVariants as node
+use Rattle.join_trees.specs.declared.tree.Leaf.{Leaf}
+use Rattle.join_trees.specs.declared.tree.Leaf.TheVariants as leaf
+use Rattle.join_trees.specs.declared.tree.Node.{Node}
+use Rattle.join_trees.specs.declared.tree.Node.TheVariants as node
 
 -- a leaf, or a join of two trees by its number
 pub data Shape : Type 0 where

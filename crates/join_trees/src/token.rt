@@ -1,7 +1,7 @@
 //! The tokens of a tree's text.
 
 ghost use Rattle.std.specs.Prelude.{◌≡◌};
-ghost use Rattle.plan_reader.specs.Tokens.{is_padded, mark_token, of_length, part_token, token_at, word_token};
+ghost use Rattle.join_trees.specs.Tokens.{is_padded, mark_token, of_length, part_token, token_at, word_token};
 
 use crate::tree::Leaf;
 use med_base::Name;

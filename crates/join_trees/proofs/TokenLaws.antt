@@ -4,8 +4,8 @@ use Rattle.std.specs.List.{prefix_len}
 use Rattle.std.proofs.lemmas.List.Sums.{prefix_len-le-length}
 use Rattle.med_prelude.specs.Names.{continues_name, starts_name}
 use Rattle.text_reading.specs.Runs.{name_run}
-use Rattle.plan_reader.specs.Tokens.{mark_token, of_length, token_at, word_token}
-use Rattle.plan_reader.specs.declared.token.Token.{Token}
+use Rattle.join_trees.specs.Tokens.{mark_token, of_length, token_at, word_token}
+use Rattle.join_trees.specs.declared.token.Token.{Token}
 
 record IsWithin (bytes : List ℕ) (read : Option (Token × ℕ)) : Type 0 where
   fits : IfSome read (λ r. (0 < r.1) × (r.1 ≤ length bytes))

@@ -5,16 +5,16 @@ use Rattle.text_reading.specs.Lexing.{Lexeme, lexeme, lexemes_from, tokens}
 use Rattle.text_reading.specs.Machines.{state_after}
 use Rattle.text_reading.proofs.LexingLaws.{lexemes_from-blank, lexemes_from-junk, lexemes_from-token}
 use Rattle.rule_reader.specs.Tokens.{is_space}
-use Rattle.plan_reader.specs.Machine.{advance, finished_tree, step, step_in, tree_from}
-use Rattle.plan_reader.specs.Shapes.{Shape}
-use Rattle.plan_reader.specs.Tokens.{lexicon, token_at}
-use Rattle.plan_reader.specs.declared.machine.Phase.{Phase}
-use Rattle.plan_reader.specs.declared.machine.Phase.TheVariants.{Due, Named, Read}
-use Rattle.plan_reader.specs.declared.machine.State.{State}
-use Rattle.plan_reader.specs.declared.stack.OpenJoin.{OpenJoin}
-use Rattle.plan_reader.specs.declared.token.Token.{Token}
-use Rattle.plan_reader.specs.declared.token.Token.TheVariants as token
-use Rattle.plan_reader.proofs.TokenLaws.{token_fits}
+use Rattle.join_trees.specs.Machine.{advance, finished_tree, step, step_in, tree_from}
+use Rattle.join_trees.specs.Shapes.{Shape}
+use Rattle.join_trees.specs.Tokens.{lexicon, token_at}
+use Rattle.join_trees.specs.declared.machine.Phase.{Phase}
+use Rattle.join_trees.specs.declared.machine.Phase.TheVariants.{Due, Named, Read}
+use Rattle.join_trees.specs.declared.machine.State.{State}
+use Rattle.join_trees.specs.declared.stack.OpenJoin.{OpenJoin}
+use Rattle.join_trees.specs.declared.token.Token.{Token}
+use Rattle.join_trees.specs.declared.token.Token.TheVariants as token
+use Rattle.join_trees.proofs.TokenLaws.{token_fits}
 
 -- nothing takes bytes that are no token
 junk_in : (p : Phase) (open_joins : List OpenJoin) (trees : List Shape) → step_in p open_joins trees token.Junk ≡ None
