@@ -21,4 +21,5 @@ mod tree;
 
 pub use laws::trees_are_spelled;
 pub use reading::read_tree;
+pub use stack::Stack;
 pub use tree::{Leaf, Node, Tree};

@@ -32,7 +32,7 @@ mod tests;
 mod words;
 
 pub use join_trees::{Leaf, Node, Tree};
-pub use location::Location;
+pub use location::{Location, location};
 pub use own::own_fault;
 pub use plan::{
     Fragment, GroupSetting, JoinSetting, Plan, PlanFault, Policy, Replan, WrittenRule,

@@ -1,0 +1,6 @@
+pub mod Filling
+pub mod Naming
+pub mod Uses
+pub mod Places
+pub mod Walks
+pub mod Checking
