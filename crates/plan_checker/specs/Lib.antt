@@ -3,4 +3,5 @@ pub mod Naming
 pub mod Uses
 pub mod Places
 pub mod Walks
+pub mod Covers
 pub mod Checking
