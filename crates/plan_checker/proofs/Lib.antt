@@ -1,2 +1,3 @@
 pub mod CoverLaws
 pub mod AcceptedLaws
+pub mod CheckedLaws

@@ -11,6 +11,8 @@ mod checking;
 mod filling;
 mod misused;
 mod places;
+#[cfg(test)]
+mod tests;
 mod unknown;
 mod uses;
 mod walking;

@@ -1,7 +1,7 @@
 //! What a table of a plan has at its keys.
 
-ghost use Rattle.std.specs.List.{filter_map};
-ghost use Rattle.std.specs.Prelude.{◌≡◌, map, is_none, position, option_map, IfOk};
+ghost use Rattle.std.specs.Prelude.{◌≡◌, map, option_and_then, option_map, IfOk};
+ghost use Rattle.toml.specs.Data.{as_table, get_member};
 ghost use Rattle.toml.specs.View.{table_view, view};
 ghost use Rattle.plan_reader.specs.Entries.{entries_at, entries_of, entry_seen, given, settled, values_at};
 ghost use Rattle.plan_reader.specs.Words.{method_of, number_of, policy_of, replan_of};
