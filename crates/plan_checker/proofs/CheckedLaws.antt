@@ -6,13 +6,14 @@ use Rattle.std.proofs.lemmas.List.Elements.{filter_map-append}
 use Rattle.answer_theory.specs.Bags.{SameBag, numbers_from, weight_of}
 use Rattle.answer_theory.specs.Rows.{AreDistinct}
 use Rattle.answer_theory.specs.Solutions.{names}
-use Rattle.answer_theory.proofs.Bags.{bag_length, bag_trans, weight_of_append}
+use Rattle.answer_theory.proofs.Bags.{bag_append, bag_length, bag_trans}
 use Rattle.cat_reader.specs.declared.catalogue.Relation.{Relation}
 use Rattle.query_core.specs.declared.query.Query.{Query}
 use Rattle.join_trees.specs.Shapes.{Shape, no_tree, nodes_of}
 use Rattle.join_trees.specs.declared.tree.Leaf.TheVariants as leaf
 use Rattle.join_trees.specs.declared.tree.Node.{Node}
 use Rattle.join_trees.specs.declared.tree.Node.TheVariants as node
+use Rattle.med_base.specs.declared.names.Name.TheVariants as name
 use Rattle.med_base.specs.declared.status.Part.TheVariants as part
 use Rattle.text_reading.specs.Checks.{IsExact, IsKept, first_broken}
 use Rattle.text_reading.specs.Faults.{broken_if, indices_where}
@@ -26,9 +27,11 @@ use Rattle.plan_reader.specs.declared.plan.Fragment.{Fragment}
 use Rattle.plan_reader.specs.declared.plan.Plan.{Plan}
 use Rattle.plan_checker.specs.Checking.{checks_of}
 use Rattle.plan_checker.specs.Covers.{CoversQuery, IsMade, is_own, last_of, made_after, whole_tree}
+use Rattle.plan_checker.specs.Places.{atom_site, site}
 use Rattle.plan_checker.specs.Uses.{atom_numbers, atom_of, atoms_used, early_from, fragment_of, fragments_named, fragments_used, is_atom, is_early, is_missing, is_unknown_group, is_unknown_join, is_used_twice, joins_used, misused_from, names_known, names_unknown, nodes_in, numbers_of, where_early, where_missing, where_misused, where_unknown, where_used_twice}
 use Rattle.plan_checker.proofs.AcceptedLaws.{all_used, as_wanted, each_atom, names_apart}
 use Rattle.plan_checker.proofs.CoverLaws.{AreApart, AreOrdered, makes, tops_cover}
+use Rattle.plan_checker.proofs.SiteLaws.{whole_sites}
 
 -- ---- bags of what is taken from bags
 
@@ -58,6 +61,12 @@ same_atoms [] = refl
 same_atoms (node.Leaf (leaf.Atom a) ∷ ns) = ap (λ xs. a ∷ xs) (same_atoms ns)
 same_atoms (node.Leaf (leaf.Fragment f) ∷ ns) = same_atoms ns
 same_atoms (node.Join j ∷ ns) = same_atoms ns
+
+same_atom_sites : (ns : List Node) → filter_map atom_site (filter is_own ns) ≡ filter_map atom_site ns
+same_atom_sites [] = refl
+same_atom_sites (node.Leaf (leaf.Atom a) ∷ ns) = ap (λ xs. site (name.Atom a) (a ∷ []) ∷ xs) (same_atom_sites ns)
+same_atom_sites (node.Leaf (leaf.Fragment f) ∷ ns) = same_atom_sites ns
+same_atom_sites (node.Join j ∷ ns) = same_atom_sites ns
 
 empty_bag : {A : Type 0} (xs : List A) → length xs ≡ 0 → xs ≡ []
 empty_bag [] e = refl
@@ -152,10 +161,12 @@ covered atoms f fs twice known missing used_twice misused early =
     subst (λ ns. SameBag ns (filter is_own (nodes_in all))) (append-nil (nodes_of (made last))) (subst (λ ns. SameBag (nodes_of (made last) ++ []) ns) (append-nil (filter is_own (nodes_in all))) tops) in
     let scans : SameBag (fragments_used (nodes_of (made last))) [] = subst (λ ns. SameBag (fragments_used (nodes_of (made last))) ns) (no_fragments (nodes_in all)) (bag_filter_map fragment_of nodes) in
     let own : SameBag (atoms_used (nodes_of (made last))) (atoms_used (nodes_in all)) = subst (λ ns. SameBag (atoms_used (nodes_of (made last))) ns) (same_atoms (nodes_in all)) (bag_filter_map atom_of nodes) in
+    let atom_places : SameBag (filter_map atom_site (nodes_of (made last))) (filter_map atom_site (nodes_in all)) = subst (λ ss. SameBag (filter_map atom_site (nodes_of (made last))) ss) (same_atom_sites (nodes_in all)) (bag_filter_map atom_site nodes) in
     record {
       nodes = nodes;
       no_fragment = empty_bag (fragments_used (nodes_of (made last))) (bag_length scans);
       each_atom = bag_trans own (each_atom atoms (atoms_used (nodes_in all)) missing used_twice (known_atoms atoms (numbers_of all) all known));
+      each_site = bag_append atom_places (whole_sites made all last apart.1 apart.0 (ordered [] 0 all refl early) is bag);
     }
 
 -- each check is kept

@@ -26,7 +26,7 @@ own_weight v n = cond (is_own n) (v n) 0
 abbrev made_weight : (Node → ℕ) → (ℕ → Shape) → ℕ → ℕ
 made_weight v made n = weight_of v (nodes_of (made n))
 
-used_in_join : (as bs : List Node) (j : ℕ) → fragments_used (as ++ (bs ++ node.Join j ∷ [])) ≡ fragments_used as ++ fragments_used bs
+pub used_in_join : (as bs : List Node) (j : ℕ) → fragments_used (as ++ (bs ++ node.Join j ∷ [])) ≡ fragments_used as ++ fragments_used bs
 used_in_join as bs j =
     filter_map-append fragment_of as (bs ++ node.Join j ∷ []) ∙ ap (λ xs. fragments_used as ++ xs) (filter_map-append fragment_of bs (node.Join j ∷ []) ∙ append-nil (fragments_used bs))
 
@@ -48,44 +48,54 @@ expanded_weighs v made (fork j a b) =
     ap (weight_of m) (used_in_join (nodes_of a) (nodes_of b) j) ∙ weight_of_append m (fragments_used (nodes_of a)) (fragments_used (nodes_of b)) in
     omega (arith, whole, own, used, left, right)
 
-sum_made : (v : Node → ℕ) (made : ℕ → Shape) (fs : List Fragment) → IsMade made fs
-    → weight_of (made_weight v made) (numbers_of fs) ≡ weight_of (own_weight v) (nodes_in fs) + weight_of (made_weight v made) (fragments_used (nodes_in fs))
-sum_made v made [] is = omega arith
-sum_made v made (f ∷ fs) is =
-    let w : Node → ℕ = own_weight v in
-    let m : ℕ → ℕ = made_weight v made in
-    let here : m f.number ≡ weight_of w (nodes_of f.tree) + weight_of m (fragments_used (nodes_of f.tree)) = ap (λ t. weight_of v (nodes_of t)) is.0 ∙ expanded_weighs v made f.tree in
-    let own : weight_of w (nodes_in (f ∷ fs)) ≡ weight_of w (nodes_of f.tree) + weight_of w (nodes_in fs) = weight_of_append w (nodes_of f.tree) (nodes_in fs) in
-    let used : weight_of m (fragments_used (nodes_in (f ∷ fs))) ≡ weight_of m (fragments_used (nodes_of f.tree)) + weight_of m (fragments_used (nodes_in fs)) =
-    ap (weight_of m) (filter_map-append fragment_of (nodes_of f.tree) (nodes_in fs)) ∙ weight_of_append m (fragments_used (nodes_of f.tree)) (fragments_used (nodes_in fs)) in
-    omega (arith, here, own, used, sum_made v made fs is.1)
+-- The weights of what the numbers of fragments stand for, where each weighs what its fragment has of its own and what the
+-- fragments weigh that it uses.
 
--- Where the fragments together with some finished ones are used once each, but for those on top, the expanded trees of the
--- top ones have the nodes of all fragments and those of the finished ones.
+abbrev pub AreWeighed : (ℕ → ℕ) → (Fragment → ℕ) → List Fragment → Type 0
+AreWeighed all own fs = AllByRecursion (λ (f : Fragment). all f.number ≡ own f + weight_of all (fragments_used (nodes_of f.tree))) fs
+
+sum_weights : (all : ℕ → ℕ) (own : Fragment → ℕ) (fs : List Fragment) → AreWeighed all own fs → weight_of all (numbers_of fs) ≡ weight_of own fs + weight_of all (fragments_used (nodes_in fs))
+sum_weights all own [] are = omega arith
+sum_weights all own (f ∷ fs) are =
+    let here : all f.number ≡ own f + weight_of all (fragments_used (nodes_of f.tree)) = are.0 in
+    let used : weight_of all (fragments_used (nodes_in (f ∷ fs))) ≡ weight_of all (fragments_used (nodes_of f.tree)) + weight_of all (fragments_used (nodes_in fs)) =
+    ap (weight_of all) (filter_map-append fragment_of (nodes_of f.tree) (nodes_in fs)) ∙ weight_of_append all (fragments_used (nodes_of f.tree)) (fragments_used (nodes_in fs)) in
+    omega (arith, here, used, sum_weights all own fs are.1)
+
+-- where the fragments together with some finished ones are used once each, but for those on top
+pub tops_weigh : (all : ℕ → ℕ) (own : Fragment → ℕ) (fs : List Fragment) (finished tops : List ℕ) → AreWeighed all own fs → SameBag (numbers_of fs ++ finished) (fragments_used (nodes_in fs) ++ tops)
+    → weight_of all tops ≡ weight_of own fs + weight_of all finished
+tops_weigh all own fs finished tops are bag =
+    let both : weight_of all (numbers_of fs ++ finished) ≡ weight_of all (fragments_used (nodes_in fs) ++ tops) = bag.weighs all in
+    let one = weight_of_append all (numbers_of fs) finished in
+    let two = weight_of_append all (fragments_used (nodes_in fs)) tops in
+    omega (arith, both, one, two, sum_weights all own fs are)
+
+nodes_weigh : (v : Node → ℕ) (made : ℕ → Shape) (fs : List Fragment) → IsMade made fs → AreWeighed (made_weight v made) (λ f. weight_of (own_weight v) (nodes_of f.tree)) fs
+nodes_weigh v made [] is = tt
+nodes_weigh v made (f ∷ fs) is = (ap (λ t. weight_of v (nodes_of t)) is.0 ∙ expanded_weighs v made f.tree, nodes_weigh v made fs is.1)
+
+-- Then the expanded trees of the top ones have the nodes of all fragments and those of the finished ones.
 pub tops_cover : (made : ℕ → Shape) (fs : List Fragment) (finished tops : List ℕ) → IsMade made fs → SameBag (numbers_of fs ++ finished) (fragments_used (nodes_in fs) ++ tops)
     → SameBag (flat_map (λ n. nodes_of (made n)) tops) (filter is_own (nodes_in fs) ++ flat_map (λ n. nodes_of (made n)) finished)
 tops_cover made fs finished tops is bag = record {
   weighs = λ v.
-      let m : ℕ → ℕ = made_weight v made in
-      let all : weight_of m (numbers_of fs ++ finished) ≡ weight_of m (fragments_used (nodes_in fs) ++ tops) = bag.weighs m in
-      let one = weight_of_append m (numbers_of fs) finished in
-      let two = weight_of_append m (fragments_used (nodes_in fs)) tops in
-      let sum = sum_made v made fs is in
-      let there : weight_of v (flat_map (λ n. nodes_of (made n)) tops) ≡ weight_of m tops = weight_of_flat_map (λ n. nodes_of (made n)) v tops in
-      let here : weight_of v (filter is_own (nodes_in fs) ++ flat_map (λ n. nodes_of (made n)) finished) ≡ weight_of (own_weight v) (nodes_in fs) + weight_of m finished =
-      weight_of_append v (filter is_own (nodes_in fs)) (flat_map (λ n. nodes_of (made n)) finished)
-      ∙ ap (λ n. n + weight_of v (flat_map (λ k. nodes_of (made k)) finished)) (weight_of_filter is_own v (nodes_in fs))
-      ∙ ap (λ n. weight_of (own_weight v) (nodes_in fs) + n) (weight_of_flat_map (λ n. nodes_of (made n)) v finished) in
-      omega (arith, all, one, two, sum, there, here);
+      let all : ℕ → ℕ = made_weight v made in
+      let own : Fragment → ℕ = λ f. weight_of (own_weight v) (nodes_of f.tree) in
+      weight_of_flat_map (λ n. nodes_of (made n)) v tops
+      ∙ tops_weigh all own fs finished tops (nodes_weigh v made fs is) bag
+      ∙ ap (λ n. n + weight_of all finished) (sym (weight_of_filter is_own v (nodes_in fs) ∙ weight_of_flat_map (λ (f : Fragment). nodes_of f.tree) (own_weight v) fs))
+      ∙ ap (λ n. weight_of v (filter is_own (nodes_in fs)) + n) (sym (weight_of_flat_map (λ n. nodes_of (made n)) v finished))
+      ∙ sym (weight_of_append v (filter is_own (nodes_in fs)) (flat_map (λ n. nodes_of (made n)) finished));
 }
 
 -- ---- what each number stands for
 
-neither : (a b : Bool) → (a || b) ≡ false → (a ≡ false) × (b ≡ false)
+pub neither : (a b : Bool) → (a || b) ≡ false → (a ≡ false) × (b ≡ false)
 neither true b e = absurd (true≢false e)
 neither false b e = (refl, e)
 
-either_first : (a b : Bool) → a ≡ true → (a || b) ≡ true
+pub either_first : (a b : Bool) → a ≡ true → (a || b) ≡ true
 either_first a b e = rw e refl
 
 either_second : (a b : Bool) → b ≡ true → (a || b) ≡ true
@@ -132,7 +142,7 @@ AreOrdered before (f ∷ fs) = (list_all (names before) (fragments_used (nodes_o
 abbrev pub AreApart : List ℕ → List ℕ → Type 0
 AreApart before ns = (k : ℕ) → names before k ≡ true → names ns k ≡ false
 
-all_named : (before ks : List ℕ) (k : ℕ) → list_all (names before) ks ≡ true → names ks k ≡ true → names before k ≡ true
+pub all_named : (before ks : List ℕ) (k : ℕ) → list_all (names before) ks ≡ true → names ks k ≡ true → names before k ≡ true
 all_named before [] k all e = absurd (true≢false (sym e))
 all_named before (m ∷ ks) k all e = by (names before m) (m == k) refl refl all e
   where

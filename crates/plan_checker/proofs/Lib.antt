@@ -1,3 +1,4 @@
 pub mod CoverLaws
 pub mod AcceptedLaws
+pub mod SiteLaws
 pub mod CheckedLaws

@@ -1,12 +1,14 @@
 -- What it means that fragments cover a query.
 use Rattle.std.specs.Prelude.{◌≡◌, ℕ, ◌==◌, not, cond, Bool, true, false, List, [], ◌∷◌, ◌++◌, filter}
-use Rattle.std.specs.List.{AllByRecursion}
+use Rattle.std.specs.List.{AllByRecursion, filter_map}
 use Rattle.answer_theory.specs.Bags.{SameBag, numbers_from, weight_of}
 use Rattle.join_trees.specs.Shapes.{Shape, tip, fork, nodes_of, no_tree}
 use Rattle.join_trees.specs.declared.tree.Leaf.TheVariants as leaf
 use Rattle.join_trees.specs.declared.tree.Node.{Node}
 use Rattle.join_trees.specs.declared.tree.Node.TheVariants as node
 use Rattle.plan_reader.specs.declared.plan.Fragment.{Fragment}
+use Rattle.plan_checker.specs.Places.{atom_site, join_sites, sites}
+use Rattle.plan_checker.specs.declared.walking.Site.{Site}
 use Rattle.plan_checker.specs.Uses.{atoms_used, fragments_used, nodes_in, numbers_of}
 
 -- the tree with the trees of its fragments in their places
@@ -43,9 +45,15 @@ is_own (node.Leaf (leaf.Atom a)) = true
 is_own (node.Leaf (leaf.Fragment f)) = false
 is_own (node.Join j) = true
 
+-- the nodes of a tree without fragments where a comparison can be tested, each with the atoms under it
+abbrev pub sites_of : Shape → List Site
+sites_of t = filter_map atom_site (nodes_of t) ++ join_sites [] t
+
 -- The whole tree has the atoms and joins of all fragments, each as often as it stands there, and no fragment is left in
 -- it; its atoms are those of the query, each once.
 pub record CoversQuery (atoms : ℕ) (fs : List Fragment) : Type 0 where
   pub nodes : SameBag (nodes_of (whole_tree fs)) (filter is_own (nodes_in fs))
   pub no_fragment : fragments_used (nodes_of (whole_tree fs)) ≡ []
   pub each_atom : SameBag (atoms_used (nodes_of (whole_tree fs))) (numbers_from 1 atoms)
+  -- what comes into question for a comparison are its nodes, each with the atoms under it there
+  pub each_site : SameBag (sites_of (whole_tree fs)) (sites fs)
