@@ -2,3 +2,4 @@ pub mod CoverLaws
 pub mod AcceptedLaws
 pub mod SiteLaws
 pub mod CheckedLaws
+pub mod PlacedLaws
