@@ -3,3 +3,4 @@ pub mod AcceptedLaws
 pub mod SiteLaws
 pub mod CheckedLaws
 pub mod PlacedLaws
+pub mod DefaultLaws

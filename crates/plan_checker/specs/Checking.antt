@@ -35,6 +35,10 @@ found_of query catalogue plan = unless_broken (first_broken is_up_to (checks_of 
 abbrev pub checked_of : Query → List Relation → Plan → Result Checked PlanFault
 checked_of query catalogue plan = found_of query catalogue (filled (length query.atoms) plan)
 
+-- no check is broken
+abbrev pub IsAccepted : Query → List Relation → Plan → Type 0
+IsAccepted query catalogue plan = first_broken is_up_to (checks_of query catalogue (filled (length query.atoms) plan)) ≡ None
+
 -- the answer is what is found, unless memory ran out
 abbrev pub AnswersChecked : Result Checked PlanFault → Result Checked PlanFault → Type 0
 AnswersChecked (Ok checked) found = found ≡ Ok checked

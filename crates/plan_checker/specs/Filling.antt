@@ -2,6 +2,8 @@
 use Rattle.std.specs.Prelude.{ℕ, zero, suc, ◌+◌, ◌-◌, ◌==◌, List, [], ◌∷◌, length, None, if◌then◌else◌}
 use Rattle.join_trees.specs.Shapes.{Shape, tip, fork}
 use Rattle.join_trees.specs.declared.tree.Leaf.TheVariants as leaf
+use Rattle.toml.specs.Data.{no_members}
+use Rattle.plan_reader.specs.Parts.{plan_in}
 use Rattle.plan_reader.specs.declared.plan.Fragment.{Fragment}
 use Rattle.plan_reader.specs.declared.plan.Plan.{Plan}
 
@@ -20,3 +22,7 @@ with_fragments plan fragments = record plan { fragments = fragments }
 -- the plan, with that fragment where it names none
 abbrev pub filled : ℕ → Plan → Plan
 filled atoms plan = if length plan.fragments == 0 then with_fragments plan (default_fragment atoms ∷ []) else plan
+
+-- the plan of the empty text
+abbrev pub default_plan : Plan
+default_plan = plan_in no_members

@@ -1,7 +1,8 @@
 //! The check of a plan against a query and its catalogue.
 
-ghost use Rattle.std.specs.Prelude.{◌≡◌, length, IfOk};
-ghost use Rattle.plan_checker.specs.Checking.{AnswersChecked, checked_of, checks_of, found_of};
+ghost use Rattle.std.specs.Prelude.{◌≡◌, ◌≤◌, length, IfOk};
+ghost use Rattle.plan_checker.specs.Checking.{AnswersChecked, checked_of, checks_of};
+ghost use Rattle.plan_checker.specs.Covers.{CoversQuery};
 ghost use Rattle.plan_checker.specs.Uses.{query_checks};
 ghost use Rattle.plan_reader.specs.Locations.{is_up_to};
 ghost use Rattle.query_reader.specs.Fitting.{FitsCatalogue};
@@ -50,6 +51,7 @@ fn query_fault(
     catalogue: &Catalogue,
     plan: &Plan,
 ) -> Result<Option<Broken<Location>>, AllocError>
+    requires few { length query.now.atoms ≤ 8 }
     ensures { IfOk result (λ broken. broken ≡ first_broken is_up_to (query_checks query.now catalogue.now plan.now)) }
 {
     let fragments = plan.fragments.as_slice();
@@ -76,6 +78,7 @@ fn first_fault(
     catalogue: &Catalogue,
     plan: &Plan,
 ) -> Result<Option<Broken<Location>>, AllocError>
+    requires few { length query.now.atoms ≤ 8 }
     ensures { IfOk result (λ broken. broken ≡ first_broken is_up_to (checks_of query.now catalogue.now plan.now)) }
 {
     match own_fault(alloc, plan)? {
@@ -93,6 +96,21 @@ pub fn check_plan(
     plan: Plan,
 ) -> Result<Checked, PlanFault>
     requires fits { FitsCatalogue catalogue.now query.now }
+    ensures finds { AnswersChecked result (checked_of query.now catalogue.now plan) }
+    ensures covers { IfOk result (λ checked. CoversQuery (length query.now.atoms) checked.plan.fragments) }
+    ensures placed { IfOk result (λ checked. length checked.places ≡ length query.now.comparisons) }
+{
+    found_of_plan(alloc, query, catalogue, plan)
+}
+
+fn found_of_plan(
+    alloc: Global,
+    query: &Query,
+    catalogue: &Catalogue,
+    plan: Plan,
+) -> Result<Checked, PlanFault>
+    requires some { 1 ≤ length query.now.atoms }
+    requires few { length query.now.atoms ≤ 8 }
     ensures { AnswersChecked result (checked_of query.now catalogue.now plan) }
 {
     let plan = filled(alloc, query.atoms.len() as u32, plan)?;

@@ -9,6 +9,7 @@
 
 mod checking;
 mod filling;
+mod laws;
 mod misused;
 mod places;
 #[cfg(test)]
@@ -18,3 +19,4 @@ mod uses;
 mod walking;
 
 pub use checking::{Checked, check_plan};
+pub use laws::{default_is_accepted, tops_cover_fragments};
