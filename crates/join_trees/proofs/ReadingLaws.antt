@@ -43,6 +43,9 @@ same_tokens zero at other (b ∷ bytes) = by (is_space b) (token_at (b ∷ bytes
 abbrev read_from : State → List Token → Option Shape
 read_from s ts = option_and_then finished_tree (state_after step s ts)
 
+abbrev read_after : List Token → Option State → Option Shape
+read_after ts m = option_and_then finished_tree (elim m as (λ _. Option State) [ None ↦ None | Some n ↦ state_after step n ts ])
+
 pub from_blank : (s : State) (b : ℕ) (bytes : List ℕ) → is_space b ≡ true → tree_from s (b ∷ bytes) ≡ tree_from s bytes
 unfolding tree_from
 from_blank s b bytes e = ap (λ ls. read_from s (tokens ls)) (lexemes_from-blank lexicon 0 b bytes e) ∙ ap (read_from s) (same_tokens 0 (0 + 1) 0 bytes)
@@ -52,7 +55,7 @@ unfolding tree_from
 from_junk s b bytes dark e = ap (λ ls. read_from s (tokens ls)) (lexemes_from-junk lexicon 0 b bytes dark e) ∙ dead (junk_in s.phase s.open_joins s.trees)
   where
     dead : step s token.Junk ≡ None → read_from s (token.Junk ∷ []) ≡ None
-    dead h = rw h refl
+    dead h = ap (read_after []) h
 
 from_token : (s : State) (b : ℕ) (bytes : List ℕ) (t : Token) (len : ℕ) → is_space b ≡ false → token_at (b ∷ bytes) ≡ Some (t, len)
     → tree_from s (b ∷ bytes) ≡ read_from s (t ∷ tokens (lexemes_from lexicon 0 0 (drop len (b ∷ bytes))))
@@ -65,7 +68,7 @@ from_dead : (s : State) (b : ℕ) (bytes : List ℕ) (t : Token) (len : ℕ) →
 from_dead s b bytes t len dark e none = from_token s b bytes t len dark e ∙ dead none
   where
     dead : step s t ≡ None → read_from s (t ∷ tokens (lexemes_from lexicon 0 0 (drop len (b ∷ bytes)))) ≡ None
-    dead h = rw h refl
+    dead h = ap (read_after (tokens (lexemes_from lexicon 0 0 (drop len (b ∷ bytes))))) h
 
 from_live : (s next : State) (b : ℕ) (bytes : List ℕ) (t : Token) (len : ℕ) → is_space b ≡ false → token_at (b ∷ bytes) ≡ Some (t, len) → step s t ≡ Some next
     → tree_from s (b ∷ bytes) ≡ tree_from next (drop len (b ∷ bytes))
@@ -73,17 +76,20 @@ unfolding tree_from
 from_live s next b bytes t len dark e some = from_token s b bytes t len dark e ∙ live some
   where
     live : step s t ≡ Some next → read_from s (t ∷ tokens (lexemes_from lexicon 0 0 (drop len (b ∷ bytes)))) ≡ read_from next (tokens (lexemes_from lexicon 0 0 (drop len (b ∷ bytes))))
-    live h = rw h refl
+    live h = ap (read_after (tokens (lexemes_from lexicon 0 0 (drop len (b ∷ bytes))))) h
 
 -- a step with the token that bytes begin with
 
+abbrev paired : ℕ → State → State × ℕ
+paired len next = (next, len)
+
 abbrev stepped : State → Option (Token × ℕ) → Option (State × ℕ)
-stepped s read = elim read [ None ↦ None | Some r ↦ option_map (λ next. (next, r.1)) (step s r.0) ]
+stepped s read = elim read [ None ↦ None | Some r ↦ option_map (paired r.1) (step s r.0) ]
 
 from_stuck : (s : State) (b : ℕ) (bytes : List ℕ) → is_space b ≡ false → advance s (b ∷ bytes) ≡ None → tree_from s (b ∷ bytes) ≡ None
 from_stuck s b bytes dark none = by_token (token_at (b ∷ bytes)) refl none
   where
-    by_step : (t : Token) (len : ℕ) (m : Option State) → token_at (b ∷ bytes) ≡ Some (t, len) → step s t ≡ m → option_map (λ (next : State). (next, len)) m ≡ None → tree_from s (b ∷ bytes) ≡ None
+    by_step : (t : Token) (len : ℕ) (m : Option State) → token_at (b ∷ bytes) ≡ Some (t, len) → step s t ≡ m → option_map (paired len) m ≡ None → tree_from s (b ∷ bytes) ≡ None
     by_step t len None e dead h = from_dead s b bytes t len dark e dead
     by_step t len (Some next) e live h = absurd (cc)
 
@@ -103,7 +109,7 @@ inside x y e = cc
 steps : (s : State) (bytes : List ℕ) (next : State) (len : ℕ) → advance s bytes ≡ Some (next, len) → Steps s bytes next len
 steps s bytes next len live = by_token (token_at bytes) refl live
   where
-    by_step : (t : Token) (n : ℕ) (m : Option State) → token_at bytes ≡ Some (t, n) → step s t ≡ m → option_map (λ (x : State). (x, n)) m ≡ Some (next, len) → Steps s bytes next len
+    by_step : (t : Token) (n : ℕ) (m : Option State) → token_at bytes ≡ Some (t, n) → step s t ≡ m → option_map (paired n) m ≡ Some (next, len) → Steps s bytes next len
     by_step t n None e dead h = absurd (cc)
     by_step t n (Some other) e leads h =
         let same : other ≡ next = ap (λ (p : State × ℕ). p.0) (inside (other, n) (next, len) h) in

@@ -1,7 +1,7 @@
 -- The trees on a stack, after one more node.
 use Rattle.std.proofs.Common.{◌≡◌, ℕ, suc, ◌+◌, ◌≤◌, List, [], ◌∷◌, ◌++◌, length, reverse, Option, Some, None, append_assoc, append-nil, arith, refl, sym, ap, ◌∙◌}
 use Rattle.std.proofs.lemmas.List.{reverse-append}
-use Rattle.std.specs.Prelude.{option_to_list}
+use Rattle.std.specs.Prelude.{MatchOption, option_to_list}
 use Rattle.join_trees.specs.Shapes.{Shape, tip, fork, all_nodes, first_of, joined, nodes_of, only_tree, shape_of, stack_of, with_node, with_nodes}
 use Rattle.join_trees.specs.declared.tree.Leaf.{Leaf}
 use Rattle.join_trees.specs.declared.tree.Node.{Node}
@@ -98,9 +98,11 @@ only_nodes ns kept h = nodes_first (stack_of ns) h ∙ kept
 pub pushed : {X : Type 0} (xs after : List X) (x : X) → after ≡ xs ++ x ∷ [] → reverse after ≡ x ∷ reverse xs
 pushed xs after x e = ap reverse e ∙ reverse-append xs (x ∷ [])
 
-one_or_none : {X : Type 0} (m : Option X) → reverse (option_to_list m) ≡ option_to_list m
-one_or_none None = refl
-one_or_none (Some x) = refl
-
-pub popped : {X : Type 0} (xs after : List X) (m : Option X) → xs ≡ after ++ option_to_list m → reverse xs ≡ option_to_list m ++ reverse after
-popped xs after m e = ap reverse e ∙ reverse-append after (option_to_list m) ∙ ap (λ ys. ys ++ reverse after) (one_or_none m)
+pub popped : {X : Type 0} (xs after : List X) (m : Option X) → xs ≡ after ++ option_to_list m → MatchOption m (length xs ≡ 0 × length after ≡ 0) (λ x. length after + 1 ≡ length xs)
+    → MatchOption m (reverse xs ≡ []) (λ x. reverse xs ≡ x ∷ reverse after)
+popped xs after None e sizes = ap reverse (none_left xs sizes.0)
+  where
+    none_left : {X : Type 0} (ys : List X) → length ys ≡ 0 → ys ≡ []
+    none_left [] h = refl
+    none_left (y ∷ ys) h = absurd (omega (arith, h))
+popped xs after (Some x) e sizes = ap reverse e ∙ reverse-append after (x ∷ [])

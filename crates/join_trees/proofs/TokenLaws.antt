@@ -24,7 +24,7 @@ token_within (b ∷ bytes) = by (starts_name b) refl
   where
     by : (t : Bool) → starts_name b ≡ t
         → IsWithin (b ∷ bytes) (cond t (of_length (name_run (b ∷ bytes)) (word_token (take (name_run (b ∷ bytes)) (b ∷ bytes)))) (of_length 1 (mark_token b)))
-    by true e = length_within (b ∷ bytes) (name_run (b ∷ bytes)) (word_token (take (name_run (b ∷ bytes)) (b ∷ bytes))) (run_some b bytes e) (prefix_len-le-length _ (b ∷ bytes))
+    by true e = length_within (b ∷ bytes) (name_run (b ∷ bytes)) (word_token (take (name_run (b ∷ bytes)) (b ∷ bytes))) (run_some b bytes e) (prefix_len-le-length continues_name (b ∷ bytes))
     by false e = length_within (b ∷ bytes) 1 (mark_token b) (omega arith) (omega arith)
 
 pub token_fits : (bytes : List ℕ) (t : Token) (len : ℕ) → token_at bytes ≡ Some (t, len) → (0 < len) × (len ≤ length bytes)

@@ -13,18 +13,18 @@ use Rattle.join_trees.specs.declared.token.Token.{Token}
 use Rattle.join_trees.specs.declared.token.Token.TheVariants as token
 
 abbrev pub state : Phase → List OpenJoin → List Shape → State
-state phase open trees = record { phase = phase; open_joins = open; trees = trees }
+state phase os trees = record { phase = phase; open_joins = os; trees = trees }
 
 abbrev pub open_join : ℕ → Bool → OpenJoin
 open_join j has_left = record { join = j; has_left = has_left }
 
 -- what a token leads to, where the grammar allows it
 abbrev pub step_in : Phase → List OpenJoin → List Shape → Token → Option State
-step_in Due open trees (token.Leaf l) = Some (state Read open (tip l ∷ trees))
-step_in Due open trees (token.Join j) = Some (state (Named j) open trees)
-step_in (Named j) open trees token.Open = Some (state Due (open_join j false ∷ open) trees)
-step_in Read (o ∷ open) trees token.Comma = if o.has_left then None else Some (state Due (open_join o.join true ∷ open) trees)
-step_in Read (o ∷ open) trees token.Close = if o.has_left then option_map (state Read open) (joined o.join trees) else None
+step_in Due os trees (token.Leaf l) = Some (state Read os (tip l ∷ trees))
+step_in Due os trees (token.Join j) = Some (state (Named j) os trees)
+step_in (Named j) os trees token.Open = Some (state Due (open_join j false ∷ os) trees)
+step_in Read (o ∷ os) trees token.Comma = if o.has_left then None else Some (state Due (open_join o.join true ∷ os) trees)
+step_in Read (o ∷ os) trees token.Close = if o.has_left then option_map (state Read os) (joined o.join trees) else None
 step_in _ _ _ _ = None
 
 abbrev pub step : State → Token → Option State

@@ -92,12 +92,12 @@ shape_of-nodes_of t = ap shape_of (sym (append-nil (nodes_of t))) ∙ ap first_o
 
 -- how the logic stores a tree
 
-abbrev pair_of : Node → ℕ × ℕ
+abbrev pub pair_of : Node → ℕ × ℕ
 pair_of (node.Leaf (leaf.Atom a)) = (0, a)
 pair_of (node.Leaf (leaf.Fragment f)) = (1, f)
 pair_of (node.Join j) = (2, j)
 
-abbrev node_of : ℕ × ℕ → Node
+abbrev pub node_of : ℕ × ℕ → Node
 node_of p = cond (p.0 == 0) (node.Leaf (leaf.Atom p.1)) (cond (p.0 == 1) (node.Leaf (leaf.Fragment p.1)) (node.Join p.1))
 
 node_of-pair_of : (n : Node) → node_of (pair_of n) ≡ n
@@ -109,13 +109,13 @@ nodes_back : (ns : List Node) → map node_of (map pair_of ns) ≡ ns
 nodes_back [] = refl
 nodes_back (n ∷ ns) = ap (λ m. m ∷ map node_of (map pair_of ns)) (node_of-pair_of n) ∙ ap (λ ms. n ∷ ms) (nodes_back ns)
 
-abbrev to_pairs : Shape → List (ℕ × ℕ)
+abbrev pub to_pairs : Shape → List (ℕ × ℕ)
 to_pairs t = map pair_of (nodes_of t)
 
-abbrev from_pairs : List (ℕ × ℕ) → Shape
+abbrev pub from_pairs : List (ℕ × ℕ) → Shape
 from_pairs ps = shape_of (map node_of ps)
 
-from_pairs-to_pairs : (t : Shape) → from_pairs (to_pairs t) ≡ t
+pub from_pairs-to_pairs : (t : Shape) → from_pairs (to_pairs t) ≡ t
 from_pairs-to_pairs t = ap shape_of (nodes_back (nodes_of t)) ∙ shape_of-nodes_of t
 
 abbrev pub shape_code : Coded Shape

@@ -1,7 +1,8 @@
 //! The grammar of trees as a machine that takes one token after the other.
 
-ghost use Rattle.std.specs.Prelude.{◌≡◌, IfOk};
-ghost use Rattle.join_trees.specs.Machine.{finished_tree, start, step, step_in};
+ghost use Rattle.std.specs.Prelude.{◌≡◌, option_map, IfOk};
+ghost use Rattle.join_trees.specs.Machine.{finished_tree, start, state, step, step_in};
+ghost use Rattle.join_trees.specs.Shapes.{joined};
 ghost use Rattle.join_trees.specs.declared.machine.Phase.TheVariants.{Read};
 ghost use Rattle.join_trees.specs.declared.token.Token.TheVariants as token;
 
@@ -107,27 +108,32 @@ fn after_comma(state: State) -> Result<Option<State>, AllocError>
     ensures { IfOk result (λ next. next ≡ step state token.Comma) }
 {
     match state.phase {
-        Phase::Read => {
-            let mut open_joins = state.open_joins;
-            match open_joins.pop() {
-                Some(OpenJoin {
-                    join,
-                    has_left: false,
-                }) => {
-                    open_joins.push(OpenJoin {
-                        join,
-                        has_left: true,
-                    })?;
-                    Ok(Some(State {
-                        phase: Phase::Due,
-                        open_joins,
-                        trees: state.trees,
-                    }))
-                }
-                Some(OpenJoin { has_left: true, .. }) | None => Ok(None),
-            }
-        }
+        Phase::Read => part(state.open_joins, state.trees),
         Phase::Due | Phase::Named(_) => Ok(None),
+    }
+}
+
+/// The left tree of the innermost join was read.
+fn part(open_joins: OpenJoins, trees: Stack) -> Result<Option<State>, AllocError>
+    ensures { IfOk result (λ next. next ≡ step_in Read open_joins trees token.Comma) }
+{
+    let mut open_joins = open_joins;
+    match open_joins.pop() {
+        None => Ok(None),
+        Some(opened) => {
+            if opened.has_left {
+                return Ok(None);
+            }
+            open_joins.push(OpenJoin {
+                join: opened.join,
+                has_left: true,
+            })?;
+            Ok(Some(State {
+                phase: Phase::Due,
+                open_joins,
+                trees,
+            }))
+        }
     }
 }
 
@@ -145,14 +151,22 @@ fn close(open_joins: OpenJoins, trees: Stack) -> Result<Option<State>, AllocErro
     ensures { IfOk result (λ next. next ≡ step_in Read open_joins trees token.Close) }
 {
     let mut open_joins = open_joins;
+    match open_joins.pop() {
+        None => Ok(None),
+        Some(opened) => {
+            if opened.has_left {
+                join(open_joins, trees, opened.join)
+            } else {
+                Ok(None)
+            }
+        }
+    }
+}
+
+fn join(open_joins: OpenJoins, trees: Stack, join: u32) -> Result<Option<State>, AllocError>
+    ensures { IfOk result (λ next. next ≡ option_map (state Read open_joins) (joined join trees)) }
+{
     let mut trees = trees;
-    let Some(OpenJoin {
-        join,
-        has_left: true,
-    }) = open_joins.pop()
-    else {
-        return Ok(None);
-    };
     if trees.join(join)? {
         Ok(Some(State {
             phase: Phase::Read,

@@ -10,6 +10,7 @@ use rule_reader::is_space;
 use std::alloc::{AllocError, Global};
 
 /// The tree that a text spells, where it spells one.
+#[tactic(auto, unfolding(crate::specs::Machine::tree_of))]
 pub fn read_tree(alloc: Global, text: &[u8]) -> Result<Option<Tree>, AllocError>
     ensures { IfOk result (λ tree. tree ≡ tree_of text.now) }
 {

@@ -1,6 +1,6 @@
 //! What a reader of trees keeps: the trees that were read, and the joins whose trees are still to come.
 
-ghost use Rattle.std.specs.Prelude.{◌≡◌, ◌==◌, [], ◌∷◌, ◌++◌, length, option_to_list, Some, None, if◌then◌else◌, IfOk, OnOk};
+ghost use Rattle.std.specs.Prelude.{◌≡◌, ◌==◌, [], ◌∷◌, length, MatchOption, Some, None, if◌then◌else◌, IfOk, OnOk};
 ghost use Rattle.join_trees.specs.Shapes.{joined, only_tree, tip};
 
 use crate::tree::{Leaf, Node, Tree};
@@ -37,10 +37,13 @@ impl Stack {
         }
     }
 
+    #[tactic(auto, using(crate::proofs::ShapeLaws::stack_short))]
     pub fn push_leaf(&mut self, leaf: Leaf) -> Result<(), AllocError>
         ensures { OnOk result (self.new ≡ tip leaf ∷ self.old) }
     {
         self.nodes.push(Node::Leaf(leaf))?;
+        let nodes = self.nodes.len();
+        prove!(self.trees < nodes);
         self.trees += 1;
         Ok(())
     }
@@ -99,18 +102,21 @@ impl OpenJoins {
         }
     }
 
-    pub fn push(&mut self, open: OpenJoin) -> Result<(), AllocError>
-        ensures { OnOk result (self.new ≡ open ∷ self.old) }
+    pub fn push(&mut self, opened: OpenJoin) -> Result<(), AllocError>
+        ensures { OnOk result (self.new ≡ opened ∷ self.old) }
     {
-        self.joins.push(open)?;
+        self.joins.push(opened)?;
         Ok(())
     }
 
     /// The innermost join, which is open no longer.
     pub fn pop(&mut self) -> Option<OpenJoin>
-        ensures { self.old ≡ option_to_list result ++ self.new }
+        ensures { MatchOption result (self.old ≡ []) (λ opened. self.old ≡ opened ∷ self.new) }
     {
-        self.joins.pop()
+        match self.joins.pop() {
+            Some(opened) => Some(opened),
+            None => None,
+        }
     }
 
     pub fn is_empty(&self) -> bool

@@ -9,7 +9,7 @@ ghost use Rattle.query_reader.specs.Fitting.{FitsCatalogue};
 ghost use Rattle.text_reading.specs.Checks.{first_broken};
 
 use crate::filling::filled;
-use crate::misused::{early_location, misused_location, missing_location, used_twice_location};
+use crate::misused::{early_location, missing_location, misused_location, used_twice_location};
 use crate::places::places;
 use crate::unknown::unknown_location;
 use crate::uses::{atom_numbers, atoms_used, fragments_used, joins_used, nodes_in, numbers_of};

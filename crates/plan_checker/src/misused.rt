@@ -9,7 +9,7 @@ ghost use Rattle.plan_checker.specs.Uses.{early_from, is_early, is_missing, is_u
 use crate::unknown::{are_named, fragments_named};
 use crate::uses::{atom_numbers, count_of};
 use med_base::Part;
-use plan_reader::{Fragment, Location, location};
+use plan_reader::{Fragment, Location, located};
 use std::alloc::{AllocError, Global};
 
 fn first_missing(used: &[u32], atoms: &[u32]) -> Option<usize>
@@ -66,21 +66,21 @@ fn first_early(
 pub fn missing_location(used: &[u32], atoms: &[u32]) -> Option<Location>
     ensures { result ≡ least is_up_to (in_part part.Atom (indices_where (is_missing used.now) 0 atoms.now)) }
 {
-    location(Part::Atom, first_missing(used, atoms))
+    located(Part::Atom, first_missing(used, atoms))
 }
 
 /// The location of the first atom that is a leaf twice.
 pub fn used_twice_location(used: &[u32], atoms: &[u32]) -> Option<Location>
     ensures { result ≡ least is_up_to (in_part part.Atom (indices_where (is_used_twice used.now) 0 atoms.now)) }
 {
-    location(Part::Atom, first_used_twice(used, atoms))
+    located(Part::Atom, first_used_twice(used, atoms))
 }
 
 /// The location of the first fragment that is a leaf too often or too seldom.
 pub fn misused_location(used: &[u32], numbers: &[u32]) -> Option<Location>
     ensures { result ≡ least is_up_to (in_part part.Fragment (misused_from used.now 0 numbers.now)) }
 {
-    location(Part::Fragment, first_misused(used, numbers))
+    located(Part::Fragment, first_misused(used, numbers))
 }
 
 /// The location of the first fragment that names one that doesn't stand before it.
@@ -92,8 +92,5 @@ pub fn early_location(
     requires { length numbers.now ≡ length fragments.now }
     ensures { IfOk result (λ found. found ≡ least is_up_to (in_part part.Fragment (early_from numbers.now 0 fragments.now))) }
 {
-    Ok(location(
-        Part::Fragment,
-        first_early(alloc, numbers, fragments)?,
-    ))
+    Ok(located(Part::Fragment, first_early(alloc, numbers, fragments)?))
 }

@@ -46,7 +46,12 @@ fn found(alloc: Global, atoms: u32, text: &str) -> Result<Result<Checked, PlanFa
     Ok(check_plan(alloc, &query, &catalogue, plan))
 }
 
-fn assert_refused(rt: &impl Abort, found: Result<Checked, PlanFault>, fault: PlanFault, text: &str) {
+fn assert_refused(
+    rt: &impl Abort,
+    found: Result<Checked, PlanFault>,
+    fault: PlanFault,
+    text: &str,
+) {
     match found {
         Err(told) => assert_eq!(rt; told, fault, "{text}"),
         Ok(_) => panic!(rt; "accepted: {text}"),
@@ -58,17 +63,59 @@ fn assert_refused(rt: &impl Abort, found: Result<Checked, PlanFault>, fault: Pla
 fn refuses_what_covers_no_query(rt: HostRuntime) -> Result<(), Fail> {
     let two = "[[fragment]]\nname = \"f1\"\ntree = \"j1(a1, a2)\"\n";
     let cases = [
-        (2, "[[fragment]]\nname = \"f1\"\ntree = \"j1(a1, a3)\"", 4, Part::Fragment, 0),
-        (2, "[[fragment]]\nname = \"f1\"\ntree = \"j1(a1, f7)\"", 4, Part::Fragment, 0),
-        (2, "[[fragment]]\nname = \"f1\"\ntree = \"j1(a1, a2)\"\nafter = [\"f7\"]", 4, Part::Fragment, 0),
+        (
+            2,
+            "[[fragment]]\nname = \"f1\"\ntree = \"j1(a1, a3)\"",
+            4,
+            Part::Fragment,
+            0,
+        ),
+        (
+            2,
+            "[[fragment]]\nname = \"f1\"\ntree = \"j1(a1, f7)\"",
+            4,
+            Part::Fragment,
+            0,
+        ),
+        (
+            2,
+            "[[fragment]]\nname = \"f1\"\ntree = \"j1(a1, a2)\"\nafter = [\"f7\"]",
+            4,
+            Part::Fragment,
+            0,
+        ),
         (2, "[join.j1]\n[join.j2]", 4, Part::Join, 1),
         (2, "[group.\"a3.1\"]", 4, Part::Group, 0),
         (2, "[group.\"a1.2\"]\n[group.\"a1.3\"]", 4, Part::Group, 1),
         (2, "[group.\"a1.3\"]\n[join.j2]", 4, Part::Join, 0),
-        (2, "[[fragment]]\nname = \"f1\"\ntree = \"a1\"", 5, Part::Atom, 1),
-        (2, "[[fragment]]\nname = \"f1\"\ntree = \"j1(a1, j2(a2, a1))\"", 6, Part::Atom, 0),
-        (3, "[[fragment]]\nname = \"f1\"\ntree = \"j1(a2, a2)\"", 5, Part::Atom, 0),
-        (2, "[[fragment]]\nname = \"f1\"\ntree = \"a1\"\n[[fragment]]\nname = \"f2\"\ntree = \"a2\"", 7, Part::Fragment, 0),
+        (
+            2,
+            "[[fragment]]\nname = \"f1\"\ntree = \"a1\"",
+            5,
+            Part::Atom,
+            1,
+        ),
+        (
+            2,
+            "[[fragment]]\nname = \"f1\"\ntree = \"j1(a1, j2(a2, a1))\"",
+            6,
+            Part::Atom,
+            0,
+        ),
+        (
+            3,
+            "[[fragment]]\nname = \"f1\"\ntree = \"j1(a2, a2)\"",
+            5,
+            Part::Atom,
+            0,
+        ),
+        (
+            2,
+            "[[fragment]]\nname = \"f1\"\ntree = \"a1\"\n[[fragment]]\nname = \"f2\"\ntree = \"a2\"",
+            7,
+            Part::Fragment,
+            0,
+        ),
         (
             2,
             "[[fragment]]\nname = \"f1\"\ntree = \"a1\"\n[[fragment]]\nname = \"f2\"\ntree = \"j1(f1, j2(f1, a2))\"",
@@ -90,7 +137,13 @@ fn refuses_what_covers_no_query(rt: HostRuntime) -> Result<(), Fail> {
             Part::Fragment,
             0,
         ),
-        (1, "[[fragment]]\nname = \"f1\"\ntree = \"a1\"\nafter = [\"f1\"]", 8, Part::Fragment, 0),
+        (
+            1,
+            "[[fragment]]\nname = \"f1\"\ntree = \"a1\"\nafter = [\"f1\"]",
+            8,
+            Part::Fragment,
+            0,
+        ),
     ];
     for (atoms, text, why, part, item) in cases {
         let told = PlanFault::Refused { why, part, item };
@@ -107,7 +160,9 @@ fn accepts_what_covers_a_query(rt: HostRuntime) -> Result<(), Fail> {
     let mut text = String::from_str(alloc, "[[fragment]]\nname = \"f1\"\ntree = \"a1\"\n")?;
     for number in 2..9u32 {
         let before = number - 1;
-        let next = format!(in alloc; "[[fragment]]\nname = \"f{number}\"\ntree = \"j{number}(f{before}, a{number})\"\nafter = [\"f{before}\"]\n")?;
+        let next = format!(in alloc;
+            "[[fragment]]\nname = \"f{number}\"\ntree = \"j{number}(f{before}, a{number})\"\nafter = [\"f{before}\"]\n"
+        )?;
         text.push_str(next.as_str())?;
     }
     text.push_str("[join.j8]\n[group.\"a8.2\"]\n")?;
@@ -150,7 +205,9 @@ fn places_comparisons(rt: HostRuntime) -> Result<(), Fail> {
     ];
     for (text, expected) in cases {
         let plan = plan(alloc, text)?;
-        let checked = check_plan(alloc, &query, &catalogue, plan).map_err(|_| Fail::from("refused"))?;
+        let checked = check_plan(alloc, &query, &catalogue, plan).map_err(|_| Fail::from(
+            "refused",
+        ))?;
         assert_eq!(rt; checked.places(), expected.as_slice(), "{text}");
     }
     Ok(())

@@ -13,7 +13,7 @@ use cat_reader::Catalogue;
 use indexmap::IndexSet;
 use med_base::{GroupName, Part};
 use med_prelude::Listed;
-use plan_reader::{Fragment, GroupSetting, JoinSetting, Location, Plan, location};
+use plan_reader::{Fragment, GroupSetting, JoinSetting, Location, Plan, located};
 use query_core::Query;
 use std::alloc::{AllocError, Global};
 use text_reading::lesser;
@@ -157,9 +157,6 @@ pub fn unknown_location(
     let fragment = unknown_fragment(alloc, query.atoms.len(), numbers, fragments)?;
     let join = unknown_join(alloc, joins, plan.joins.as_slice())?;
     let group = unknown_group(query, catalogue, plan.groups.as_slice());
-    let found = lesser(
-        location(Part::Fragment, fragment),
-        location(Part::Join, join),
-    );
-    Ok(lesser(found, location(Part::Group, group)))
+    let found = lesser(located(Part::Fragment, fragment), located(Part::Join, join));
+    Ok(lesser(found, located(Part::Group, group)))
 }

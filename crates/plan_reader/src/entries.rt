@@ -127,7 +127,7 @@ impl Given for Replan {
 }
 
 /// What is read at a key, if anything stands there; none where what stands there can't be read so.
-pub fn given<T: Given>(table: &Table, key: &str) -> Option<Option<T>>
+pub fn given_at<T: Given>(table: &Table, key: &str) -> Option<Option<T>>
     ensures { result ≡ given T.read_as key.now (table_view table.now) }
 {
     match value_at(table, key) {

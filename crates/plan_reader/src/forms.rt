@@ -13,10 +13,10 @@ ghost use Rattle.plan_reader.specs.Locations.{is_up_to};
 ghost use Rattle.plan_reader.specs.Parts.{parts_of};
 
 use crate::doubled::first_doubled;
-use crate::entries::given;
+use crate::entries::given_at;
 use crate::fragments::{WrittenFragment, fragment_names};
 use crate::items::first_missing;
-use crate::location::{Location, location};
+use crate::location::{Location, located};
 use crate::parts::Parts;
 use crate::plan::{Policy, Replan, WrittenRule};
 use crate::settings::rule_names;
@@ -30,7 +30,7 @@ use toml_tables::{has_only, value_at, values_of};
 fn is_no_number(document: &Table, key: &str) -> bool
     ensures { result ≡ is_no_number key.now (table_view document.now) }
 {
-    given::<u64>(document, key).is_none()
+    given_at::<u64>(document, key).is_none()
 }
 
 #[tactic(auto, unfolding(crate::specs::Forms::has_no_number))]
@@ -47,9 +47,9 @@ fn has_no_number(document: &Table) -> bool
 fn has_no_word(document: &Table) -> bool
     ensures { result ≡ has_no_word (table_view document.now) }
 {
-    given::<Method>(document, "method").is_none()
-        || given::<Policy>(document, "policy").is_none()
-        || given::<Replan>(document, "replan").is_none()
+    given_at::<Method>(document, "method").is_none()
+        || given_at::<Policy>(document, "policy").is_none()
+        || given_at::<Replan>(document, "replan").is_none()
 }
 
 /// Something else than a list stands at the key.
@@ -124,10 +124,7 @@ fn misformed_fragment(
 }
 
 /// The least index of a rule that isn't of its form, or has the name of an earlier one.
-fn misformed_rule(
-    alloc: Global,
-    rules: &[Option<WrittenRule>],
-) -> Result<Option<usize>, AllocError>
+fn misformed_rule(alloc: Global, rules: &[Option<WrittenRule>]) -> Result<Option<usize>, AllocError>
     ensures { IfOk result (λ index. index ≡ least nat_le (misformed_rules rules.now)) }
 {
     let names = rule_names(alloc, rules)?;
@@ -149,11 +146,8 @@ pub fn misformed_location(
     let join = first_missing(parts.joins.as_slice());
     let group = first_missing(parts.groups.as_slice());
     let rule = misformed_rule(alloc, parts.rules.as_slice())?;
-    let found = lesser(
-        location(Part::Plan, own),
-        location(Part::Fragment, fragment),
-    );
-    let found = lesser(found, location(Part::Join, join));
-    let found = lesser(found, location(Part::Group, group));
-    Ok(lesser(found, location(Part::Rule, rule)))
+    let found = lesser(located(Part::Plan, own), located(Part::Fragment, fragment));
+    let found = lesser(found, located(Part::Join, join));
+    let found = lesser(found, located(Part::Group, group));
+    Ok(lesser(found, located(Part::Rule, rule)))
 }

@@ -8,7 +8,7 @@ ghost use Rattle.plan_reader.specs.Fragments.{after_in, fragment_in, fragment_re
 ghost use Rattle.join_trees.specs.Shapes.{join_in};
 ghost use Rattle.plan_reader.specs.Words.{fragment_of};
 
-use crate::entries::given;
+use crate::entries::given_at;
 use crate::items::Item;
 use crate::plan::Fragment;
 use crate::words::fragment_number;
@@ -102,7 +102,7 @@ fn fragment_in(alloc: Global, table: &Table) -> Result<Option<WrittenFragment>, 
     let Some(text) = text_at(table, "tree") else {
         return Ok(None);
     };
-    let Some(estimate) = given::<u64>(table, "estimate") else {
+    let Some(estimate) = given_at::<u64>(table, "estimate") else {
         return Ok(None);
     };
     let Some(after) = after_in(alloc, table)? else {

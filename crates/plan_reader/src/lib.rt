@@ -32,10 +32,8 @@ mod tests;
 mod words;
 
 pub use join_trees::{Leaf, Node, Tree};
-pub use location::{Location, location};
+pub use location::{Location, located};
 pub use own::own_fault;
-pub use plan::{
-    Fragment, GroupSetting, JoinSetting, Plan, PlanFault, Policy, Replan, WrittenRule,
-};
+pub use plan::{Fragment, GroupSetting, JoinSetting, Plan, PlanFault, Policy, Replan, WrittenRule};
 pub use reading::{LONGEST_PLAN, least_fault_is_told, read_plan};
 pub use rule_reader::Method;

@@ -7,7 +7,7 @@ ghost use Rattle.plan_reader.specs.Locations.{is_up_to};
 
 use crate::doubled::first_doubled;
 use crate::fragments::{WrittenFragment, join_names};
-use crate::location::{Location, location};
+use crate::location::{Location, located};
 use crate::plan::{Fragment, GroupSetting, JoinSetting, Plan, Policy, Replan};
 use med_base::Part;
 use std::alloc::{AllocError, Global};
@@ -49,10 +49,7 @@ pub fn treeless_location(
 ) -> Result<Option<Location>, AllocError>
     ensures { IfOk result (λ found. found ≡ least is_up_to (where_treeless fragments.now)) }
 {
-    Ok(location(
-        Part::Fragment,
-        treeless_fragment(alloc, fragments)?,
-    ))
+    Ok(located(Part::Fragment, treeless_fragment(alloc, fragments)?))
 }
 
 fn is_amount_over(amount: u64) -> bool
@@ -158,13 +155,13 @@ fn fragment_over(fragments: &[Fragment]) -> Option<usize>
 pub fn limit_location(plan: &Plan) -> Option<Location>
     ensures { result ≡ least is_up_to (where_past_limits plan.now) }
 {
-    let own = location(Part::Plan, broken_if(is_own_over(plan), 0));
+    let own = located(Part::Plan, broken_if(is_own_over(plan), 0));
     let fragment = fragment_over(plan.fragments.as_slice());
     let join = first_quota_over(plan.joins.as_slice());
     let group = first_race_over(plan.groups.as_slice());
     let rule = index_past(MOST_RULES, plan.rules.len());
-    let found = lesser(own, location(Part::Fragment, fragment));
-    let found = lesser(found, location(Part::Join, join));
-    let found = lesser(found, location(Part::Group, group));
-    lesser(found, location(Part::Rule, rule))
+    let found = lesser(own, located(Part::Fragment, fragment));
+    let found = lesser(found, located(Part::Join, join));
+    let found = lesser(found, located(Part::Group, group));
+    lesser(found, located(Part::Rule, rule))
 }

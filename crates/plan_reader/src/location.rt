@@ -39,7 +39,7 @@ fn rank(part: Part) -> u8
 }
 
 /// The location of an item of the part.
-pub fn location(part: Part, item: Option<usize>) -> Option<Location>
+pub fn located(part: Part, item: Option<usize>) -> Option<Location>
     ensures { result ≡ option_map (location part) item }
 {
     match item {

@@ -9,7 +9,7 @@ ghost use Rattle.plan_reader.specs.Own.{own_checks, own_joins, own_name, rule_na
 use crate::doubled::first_doubled;
 use crate::fragments::joins_among;
 use crate::limits::limit_location;
-use crate::location::{Location, location};
+use crate::location::{Location, located};
 use crate::plan::{Fragment, Plan, WrittenRule};
 use med_base::Part;
 use med_prelude::Listed;
@@ -63,10 +63,7 @@ fn named_twice(alloc: Global, plan: &Plan) -> Result<Option<Location>, AllocErro
     let rules = rule_names(alloc, plan.rules.as_slice())?;
     let fragment = first_doubled(alloc, fragments.as_slice())?;
     let rule = first_doubled(alloc, rules.as_slice())?;
-    Ok(lesser(
-        location(Part::Fragment, fragment),
-        location(Part::Rule, rule),
-    ))
+    Ok(lesser(located(Part::Fragment, fragment), located(Part::Rule, rule)))
 }
 
 /// The least location of a fragment with a join that has the name of an earlier one.
@@ -76,7 +73,7 @@ fn joined_twice(alloc: Global, plan: &Plan) -> Result<Option<Location>, AllocErr
 {
     let joins = own_joins(alloc, plan.fragments.as_slice())?;
     let fragment = first_doubled(alloc, joins.as_slice())?;
-    Ok(location(Part::Fragment, fragment))
+    Ok(located(Part::Fragment, fragment))
 }
 
 /// The first check that a plan breaks by itself, at the least location that breaks it: that names differ and numbers are in

@@ -5,7 +5,7 @@ ghost use Rattle.toml.specs.View.{table_view};
 ghost use Rattle.plan_reader.specs.Items.{present};
 ghost use Rattle.plan_reader.specs.Parts.{default_replan, method_at, number_at, parts_of, plan_with, policy_at, replan_at};
 
-use crate::entries::{entries_at, given, settled, values_at};
+use crate::entries::{entries_at, given_at, settled, values_at};
 use crate::fragments::WrittenFragment;
 use crate::items::{present, read_items};
 use crate::plan::{Fragment, GroupSetting, JoinSetting, Plan, Policy, Replan, WrittenRule};
@@ -48,25 +48,25 @@ pub fn read_parts(alloc: Global, document: &Table) -> Result<Parts, AllocError>
 fn number_at(document: &Table, key: &str, otherwise: u64) -> u64
     ensures { result ≡ number_at key.now otherwise (table_view document.now) }
 {
-    settled(otherwise, given::<u64>(document, key))
+    settled(otherwise, given_at::<u64>(document, key))
 }
 
 fn method_at(document: &Table) -> Method
     ensures { result ≡ method_at (table_view document.now) }
 {
-    settled(Method::Left, given::<Method>(document, "method"))
+    settled(Method::Left, given_at::<Method>(document, "method"))
 }
 
 fn policy_at(document: &Table) -> Policy
     ensures { result ≡ policy_at (table_view document.now) }
 {
-    settled(Policy::First, given::<Policy>(document, "policy"))
+    settled(Policy::First, given_at::<Policy>(document, "policy"))
 }
 
 fn replan_at(document: &Table, otherwise: Replan) -> Replan
     ensures { result ≡ replan_at otherwise (table_view document.now) }
 {
-    settled(otherwise, given::<Replan>(document, "replan"))
+    settled(otherwise, given_at::<Replan>(document, "replan"))
 }
 
 fn default_replan(fragments: &[Fragment]) -> Replan

@@ -7,7 +7,7 @@ ghost use Rattle.toml_tables.specs.Tables.{text_at};
 ghost use Rattle.plan_reader.specs.Entries.{entry_seen};
 ghost use Rattle.plan_reader.specs.Settings.{group_setting, group_with, join_in, join_setting, rule_in, rule_names, written_rule};
 
-use crate::entries::{Entry, given};
+use crate::entries::{Entry, given_at};
 use crate::items::Item;
 use crate::plan::{GroupSetting, JoinSetting, Policy, WrittenRule};
 use crate::words::{group_in, join_number};
@@ -26,8 +26,8 @@ fn join_in(join: u32, table: &Table) -> Option<JoinSetting>
     if !has_only(table, ["method", "quota"].as_slice()) {
         return None;
     }
-    let method = given::<Method>(table, "method")?;
-    let quota = given::<u64>(table, "quota")?;
+    let method = given_at::<Method>(table, "method")?;
+    let quota = given_at::<u64>(table, "quota")?;
     Some(JoinSetting {
         join,
         method,
@@ -56,7 +56,7 @@ fn group_with(group: GroupName, table: &Table) -> Option<GroupSetting>
     if !has_only(table, ["policy"].as_slice()) {
         return None;
     }
-    let policy = given::<Policy>(table, "policy")?;
+    let policy = given_at::<Policy>(table, "policy")?;
     Some(GroupSetting { group, policy })
 }
 

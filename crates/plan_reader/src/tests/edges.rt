@@ -58,7 +58,13 @@ fn takes_numbers_at_their_edges(rt: HostRuntime) {
 }
 
 /// So many fragments of one atom, or so many rules.
-fn many(alloc: Global, key: &str, name: &str, rest: &str, count: u32) -> Result<String, AllocError> {
+fn many(
+    alloc: Global,
+    key: &str,
+    name: &str,
+    rest: &str,
+    count: u32,
+) -> Result<String, AllocError> {
     let mut text = String::new(alloc);
     for number in 0..count {
         let one = format!(in alloc; "[[{key}]]\nname = \"{name}{}\"\n{rest}\n", number + 1)?;
