@@ -1,19 +1,25 @@
 -- The least location over the parts of a plan, and the least item of what isn't of its form.
-use Rattle.std.proofs.Common.{◌≡◌, ℕ, Bor, List, ◌++◌, map, Option, refl, sym, ap, ◌∙◌}
-use Rattle.std.specs.Prelude.{is_none, nat_eq, nat_le, nat_lt, option_map, position}
+use Rattle.std.proofs.Common.{◌≡◌, ℕ, Bor, List, [], ◌∷◌, ◌++◌, map, Option, refl, sym, ap, ◌∙◌}
+use Rattle.std.specs.Prelude.{codes, is_none, nat_eq, nat_le, nat_lt, option_map, position}
 use Rattle.toml.specs.Data.{Members}
+use Rattle.toml.specs.View.{view}
+use Rattle.toml.specs.declared.value.Value.{Value}
 use Rattle.med_base.specs.declared.status.Part.TheVariants as part
 use Rattle.text_reading.specs.Faults.{broken_if, index_past, indices_where}
 use Rattle.text_reading.specs.Order.{least, lesser}
 use Rattle.text_reading.proofs.FaultLaws.{least_index}
 use Rattle.plan_reader.specs.Forms.{is_own_misformed, misformed_fragments, misformed_rules, where_misformed}
-use Rattle.plan_reader.specs.Fragments.{joins_written, names_of}
+use Rattle.plan_reader.specs.Entries.{entries_at, entry_seen, values_at}
+use Rattle.plan_reader.specs.Fragments.{joins_written, names_of, written_fragment}
 use Rattle.plan_reader.specs.Items.{doubled, missing}
 use Rattle.plan_reader.specs.Limits.{fragments_over, is_own_over, is_quota_over, is_race_over, is_treeless, most_rules, treeless_fragments, where_past_limits}
 use Rattle.plan_reader.specs.Locations.{in_part, is_up_to, location}
 use Rattle.plan_reader.specs.Parts.{parts_of}
-use Rattle.plan_reader.specs.Settings.{rule_names}
+use Rattle.plan_reader.specs.Settings.{group_setting, join_setting, rule_names, written_rule}
+use Rattle.plan_reader.specs.Own.{own_name, rule_name, where_named_twice}
 use Rattle.plan_reader.specs.Words.{same_text}
+use Rattle.plan_reader.specs.declared.entries.Entry.{Entry}
+use Rattle.plan_reader.specs.declared.parts.Parts.{Parts}
 use Rattle.plan_reader.specs.declared.fragments.WrittenFragment.{WrittenFragment}
 use Rattle.plan_reader.specs.declared.location.Location.{Location}
 use Rattle.plan_reader.specs.declared.plan.Plan.{Plan}
@@ -74,3 +80,29 @@ least_rule rs names e =
 pub least_treeless : (ws : List WrittenFragment) → least nat_le (treeless_fragments ws) ≡ lesser nat_le (position is_treeless ws) (least nat_le (doubled nat_eq (map joins_written ws)))
 least_treeless ws =
     item_append (indices_where is_treeless 0 ws) (doubled nat_eq (map joins_written ws)) ∙ ap (λ m. lesser nat_le m (least nat_le (doubled nat_eq (map joins_written ws)))) (least_index is_treeless ws)
+
+pub least_named : (p : Plan) (names : List (List (Bor (List ℕ)))) → map texts names ≡ map rule_name p.rules
+    → least is_up_to (where_named_twice p) ≡ lesser is_up_to (option_map (location part.Fragment) (least nat_le (doubled nat_eq (map own_name p.fragments)))) (option_map (location part.Rule) (least nat_le (doubled same_seen names)))
+unfolding where_named_twice
+least_named p names e =
+    let fs : List ℕ = doubled nat_eq (map own_name p.fragments) in
+    location_append (in_part part.Fragment fs) (in_part part.Rule (doubled same_text (map rule_name p.rules)))
+    ∙ ap (λ m. lesser is_up_to m (least is_up_to (in_part part.Rule (doubled same_text (map rule_name p.rules))))) (least_in_part part.Fragment fs)
+    ∙ ap (lesser is_up_to (option_map (location part.Fragment) (least nat_le fs))) (least_in_part part.Rule (doubled same_text (map rule_name p.rules)) ∙ ap (λ ns. option_map (location part.Rule) (least nat_le ns)) (ap (doubled same_text) (sym e) ∙ doubled_texts names))
+
+map_twice : {A B C : Type 0} (f : B → C) (h : A → B) (xs : List A) → map f (map h xs) ≡ map (λ x. f (h x)) xs
+map_twice f h [] = refl
+map_twice f h (x ∷ xs) = ap (λ ys. f (h x) ∷ ys) (map_twice f h xs)
+
+pub same_parts : (doc : Members) (fs rs : List Value) (js gs : List Entry) → map view fs ≡ values_at (codes "fragment") doc → map entry_seen js ≡ entries_at (codes "join") doc → map entry_seen gs ≡ entries_at (codes "group") doc → map view rs ≡ values_at (codes "rule") doc
+    → (parts : Parts) → parts.fragments ≡ map (λ v. written_fragment (view v)) fs → parts.joins ≡ map (λ e. join_setting (entry_seen e)) js → parts.groups ≡ map (λ e. group_setting (entry_seen e)) gs → parts.rules ≡ map (λ v. written_rule (view v)) rs → parts ≡ parts_of doc
+unfolding parts_of
+same_parts doc fs rs js gs f j g r parts a b c d =
+    let one : parts.fragments ≡ map written_fragment (values_at (codes "fragment") doc) = a ∙ sym (map_twice written_fragment view fs) ∙ ap (map written_fragment) f in
+    let two : parts.joins ≡ map join_setting (entries_at (codes "join") doc) = b ∙ sym (map_twice join_setting entry_seen js) ∙ ap (map join_setting) j in
+    let three : parts.groups ≡ map group_setting (entries_at (codes "group") doc) = c ∙ sym (map_twice group_setting entry_seen gs) ∙ ap (map group_setting) g in
+    let four : parts.rules ≡ map written_rule (values_at (codes "rule") doc) = d ∙ sym (map_twice written_rule view rs) ∙ ap (map written_rule) r in
+    ap (λ x. record { fragments = x; joins = parts.joins; groups = parts.groups; rules = parts.rules }) one
+    ∙ ap (λ x. record { fragments = map written_fragment (values_at (codes "fragment") doc); joins = x; groups = parts.groups; rules = parts.rules }) two
+    ∙ ap (λ x. record { fragments = map written_fragment (values_at (codes "fragment") doc); joins = map join_setting (entries_at (codes "join") doc); groups = x; rules = parts.rules }) three
+    ∙ ap (λ x. record { fragments = map written_fragment (values_at (codes "fragment") doc); joins = map join_setting (entries_at (codes "join") doc); groups = map group_setting (entries_at (codes "group") doc); rules = x }) four

@@ -1,7 +1,8 @@
 -- Names that stand twice, item by item.
-use Rattle.std.proofs.Common.{◌≡◌, ℕ, ◌+◌, ◌<◌, ◌≤◌, Bool, true, false, not, ◌||◌, List, [], ◌∷◌, ◌++◌, Bor, map, take, drop, length, get_or, Option, Some, if◌then◌else◌, append_assoc, append-nil, arith, refl, sym, ap, ◌∙◌}
+use Rattle.std.proofs.Common.{◌≡◌, ℕ, ◌+◌, ◌<◌, ◌≤◌, Bool, true, false, not, ◌||◌, List, [], ◌∷◌, ◌++◌, Bor, map, take, drop, length, get_or, Option, Some, None, if◌then◌else◌, append_assoc, append-nil, arith, refl, sym, ap, ◌∙◌}
 use Rattle.std.specs.Prelude.{nat_le}
-use Rattle.std.specs.List.{AllByRecursion, list_any}
+use Rattle.std.specs.List.{AllByRecursion, cons_option, filter_map, list_any}
+use Rattle.std.proofs.lemmas.List.Elements.{filter_map-append}
 use Rattle.std.proofs.lemmas.List.{drop_more, take_more, map-append}
 use Rattle.text_reading.specs.Faults.{broken_if}
 use Rattle.text_reading.specs.Order.{least}
@@ -132,3 +133,13 @@ texts_doubled_after before k (names ∷ lists) =
 
 pub doubled_texts : (lists : List (List (Bor (List ℕ)))) → doubled same_text (map texts lists) ≡ doubled same_seen lists
 doubled_texts lists = texts_doubled_after [] 0 lists
+
+-- one more of a list that is taken from
+
+pub step_found : {A B : Type 0} (h : A → Option B) (ys : List A) (y : A) (x : B) (so_far after : List B) → h y ≡ Some x → so_far ≡ filter_map h ys → after ≡ so_far ++ x ∷ [] → after ≡ filter_map h (ys ++ y ∷ [])
+step_found h ys y x so_far after is kept more =
+    more ∙ ap (λ xs. xs ++ x ∷ []) kept ∙ ap (λ m. filter_map h ys ++ cons_option m []) (sym is) ∙ sym (filter_map-append h ys (y ∷ []))
+
+pub step_none : {A B : Type 0} (h : A → Option B) (ys : List A) (y : A) (so_far : List B) → h y ≡ None → so_far ≡ filter_map h ys → so_far ≡ filter_map h (ys ++ y ∷ [])
+step_none h ys y so_far is kept =
+    kept ∙ sym (append-nil (filter_map h ys)) ∙ ap (λ m. filter_map h ys ++ cons_option m []) (sym is) ∙ sym (filter_map-append h ys (y ∷ []))

@@ -112,6 +112,7 @@ fn is_own_misformed(document: &Table) -> bool
 }
 
 /// The least index of a fragment that isn't of its form, or has the name of an earlier one.
+#[tactic(auto, using(crate::proofs::FormLaws::least_fragment))]
 fn misformed_fragment(
     alloc: Global,
     fragments: &[Option<WrittenFragment>],
@@ -133,6 +134,7 @@ fn misformed_rule(alloc: Global, rules: &[Option<WrittenRule>]) -> Result<Option
 }
 
 /// The least location of what isn't of its form.
+#[tactic(auto, using(crate::proofs::FormLaws::least_misformed))]
 pub fn misformed_location(
     alloc: Global,
     document: &Table,

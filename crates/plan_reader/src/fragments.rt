@@ -192,12 +192,18 @@ pub fn join_names(
 fn fragment_read(written: WrittenFragment) -> Option<Fragment>
     ensures { result ≡ fragment_read written }
 {
-    match written.tree {
+    let WrittenFragment {
+        number,
+        tree,
+        estimate,
+        after,
+    } = written;
+    match tree {
         Some(tree) => Some(Fragment {
-            number: written.number,
+            number,
             tree,
-            estimate: written.estimate,
-            after: written.after,
+            estimate,
+            after,
         }),
         None => None,
     }

@@ -30,6 +30,7 @@ fn first_treeless(fragments: &[WrittenFragment]) -> Option<usize>
 }
 
 /// The least index of a fragment whose text spells no tree, or with a join of a name that stands before.
+#[tactic(auto, using(crate::proofs::FormLaws::least_treeless))]
 fn treeless_fragment(
     alloc: Global,
     fragments: &[WrittenFragment],
@@ -152,6 +153,7 @@ fn fragment_over(fragments: &[Fragment]) -> Option<usize>
 }
 
 /// The least location past a limit.
+#[tactic(auto, using(crate::proofs::FormLaws::least_past))]
 pub fn limit_location(plan: &Plan) -> Option<Location>
     ensures { result ≡ least is_up_to (where_past_limits plan.now) }
 {

@@ -55,7 +55,6 @@ fn rule_names(alloc: Global, rules: &[WrittenRule]) -> Result<Listed<Listed<&str
 }
 
 /// The least location of a fragment or a rule with the name of an earlier one.
-#[tactic(auto, using(crate::proofs::LocationLaws::location_append, crate::proofs::LocationLaws::least_in_part), unfolding(crate::specs::Own::where_named_twice))]
 fn named_twice(alloc: Global, plan: &Plan) -> Result<Option<Location>, AllocError>
     ensures { IfOk result (λ found. found ≡ least is_up_to (where_named_twice plan.now)) }
 {

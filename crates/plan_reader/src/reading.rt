@@ -26,6 +26,7 @@ use toml::Table;
 pub const LONGEST_PLAN: usize = 1_048_576;
 
 /// Reads a plan as a whole, or tells the first check that its text breaks, with the least part and item that break it.
+#[tactic(auto, using(med_prelude::proofs::Utf8::utf8_test, med_prelude::proofs::Utf8::utf8_refuted))]
 pub fn read_plan(alloc: Global, text: &[u8]) -> Result<Plan, PlanFault>
     ensures { AnswersPlan result (plan_of text.now) }
 {
