@@ -1,7 +1,7 @@
 -- Reading a tree, one token at a time.
 use Rattle.std.proofs.Common.{◌≡◌, ℕ, zero, suc, ◌+◌, ◌-◌, ◌<◌, ◌≤◌, Bool, true, false, cond, List, [], ◌∷◌, drop, length, Option, Some, None, arith, refl, sym, ap, ◌∙◌}
 use Rattle.std.specs.Prelude.{option_and_then, option_map}
-use Rattle.text_reading.specs.Lexing.{Lexeme, lexeme, lexemes_from, tokens}
+use Rattle.text_reading.specs.Lexing.{lexeme, lexemes_from, tokens}
 use Rattle.text_reading.specs.Machines.{state_after}
 use Rattle.text_reading.proofs.LexingLaws.{lexemes_from-blank, lexemes_from-junk, lexemes_from-token}
 use Rattle.rule_reader.specs.Tokens.{is_space}

@@ -1,8 +1,8 @@
 -- The trees on a stack, after one more node.
-use Rattle.std.proofs.Common.{◌≡◌, ℕ, suc, ◌+◌, ◌≤◌, List, [], ◌∷◌, ◌++◌, length, reverse, Option, Some, None, append_assoc, append-nil, arith, refl, sym, ap, ◌∙◌}
+use Rattle.std.proofs.Common.{◌≡◌, ℕ, ◌+◌, ◌≤◌, List, [], ◌∷◌, ◌++◌, length, reverse, Option, Some, None, append_assoc, arith, refl, sym, ap, ◌∙◌}
 use Rattle.std.proofs.lemmas.List.{reverse-append}
 use Rattle.std.specs.Prelude.{MatchOption, option_to_list}
-use Rattle.join_trees.specs.Shapes.{Shape, tip, fork, all_nodes, first_of, joined, nodes_of, only_tree, shape_of, stack_of, with_node, with_nodes}
+use Rattle.join_trees.specs.Shapes.{Shape, tip, all_nodes, first_of, joined, nodes_of, only_tree, shape_of, stack_of, with_node, with_nodes}
 use Rattle.join_trees.specs.declared.tree.Leaf.{Leaf}
 use Rattle.join_trees.specs.declared.tree.Node.{Node}
 use Rattle.join_trees.specs.declared.tree.Node.TheVariants as node

@@ -1,6 +1,5 @@
 -- A token that bytes begin with is not empty, and lies within them.
 use Rattle.std.proofs.Common.{◌≡◌, ℕ, ◌<◌, ◌≤◌, Bool, true, false, cond, List, [], ◌∷◌, length, take, Option, Some, None, IfSome, arith, refl, subst}
-use Rattle.std.specs.List.{prefix_len}
 use Rattle.std.proofs.lemmas.List.Sums.{prefix_len-le-length}
 use Rattle.med_prelude.specs.Names.{continues_name, starts_name}
 use Rattle.text_reading.specs.Runs.{name_run}

@@ -1,5 +1,5 @@
 -- The tokens of a tree's text, and how a tree is spelled.
-use Rattle.std.specs.Prelude.{ℕ, ◌==◌, ◌||◌, Bool, List, [], ◌∷◌, ◌++◌, length, take, Option, Some, None, if◌then◌else◌}
+use Rattle.std.specs.Prelude.{ℕ, ◌==◌, ◌||◌, Bool, List, [], ◌∷◌, ◌++◌, take, Option, Some, None, if◌then◌else◌}
 use Rattle.med_prelude.specs.Names.{starts_name}
 use Rattle.med_prelude.specs.Texts.{Bytes}
 use Rattle.med_base.specs.declared.names.Name.{Name}

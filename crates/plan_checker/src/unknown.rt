@@ -90,7 +90,7 @@ fn set_of(alloc: Global, numbers: &[u32]) -> Result<IndexSet<u32>, AllocError>
 fn first_unknown_join(known: &IndexSet<u32>, joins: &[JoinSetting]) -> Option<usize>
     ensures { result ≡ position (is_unknown_join known.now.keys) joins.now }
 {
-    joins.iter().position(|join| !known.contains(join.join))
+    joins.iter().position(|join| !known.contains(&join.join))
 }
 
 /// The index of the first setting of a join that isn't there.

@@ -1,6 +1,6 @@
 -- The least location over the parts of a plan, and the least item of what isn't of its form.
 use Rattle.std.proofs.Common.{◌≡◌, ℕ, Bor, List, [], ◌∷◌, ◌++◌, map, Option, refl, sym, ap, ◌∙◌}
-use Rattle.std.specs.Prelude.{codes, is_none, nat_eq, nat_le, nat_lt, option_map, position}
+use Rattle.std.specs.Prelude.{codes, is_none, nat_eq, nat_le, option_map, position}
 use Rattle.toml.specs.Data.{Members}
 use Rattle.toml.specs.View.{view}
 use Rattle.toml.specs.declared.value.Value.{Value}

@@ -1,5 +1,5 @@
 -- The least location, part by part.
-use Rattle.std.proofs.Common.{◌≡◌, ℕ, List, ◌++◌, map, arith}
+use Rattle.std.proofs.Common.{◌≡◌, ℕ, List, ◌++◌, arith}
 use Rattle.std.specs.Prelude.{nat_le, option_map}
 use Rattle.std.proofs.lemmas.Bool.Decides.{nat_tests}
 use Rattle.med_base.specs.declared.status.Part.{Part}

@@ -1,5 +1,5 @@
 -- The first broken check of a text is told, at the least location that breaks it.
-use Rattle.std.proofs.Common.{◌≡◌, Bool, true, false, cond, Option, Some, None, Err, ◌∷◌, [], refl}
+use Rattle.std.proofs.Common.{◌≡◌, Bool, true, false, cond, Option, Some, None, Err, ◌∷◌, refl}
 use Rattle.std.specs.Prelude.{option_map}
 use Rattle.toml.specs.Data.{Members}
 use Rattle.med_prelude.specs.Texts.{Bytes}

@@ -3,7 +3,7 @@ use Rattle.std.specs.Prelude.{List, [], ◌∷◌, Option, Some, None, option_ma
 use Rattle.toml.specs.Data.{Data, Members, no_members, member, get_member, as_table}
 use Rattle.toml.specs.View.{view}
 use Rattle.med_prelude.specs.Texts.{Bytes}
-use Rattle.toml_tables.specs.Tables.{array_at, values_of}
+use Rattle.toml_tables.specs.Tables.{array_at}
 use Rattle.plan_reader.specs.declared.entries.Entry.{Entry as SeenEntry}
 
 -- a key with its value

@@ -1,5 +1,5 @@
 -- The check of trees, and that of numbers and ranges.
-use Rattle.std.specs.Prelude.{ℕ, ◌^◌, ◌==◌, ◌||◌, not, nat_eq, nat_le, nat_lt, is_none, Bool, true, false, List, [], ◌∷◌, ◌++◌, map, length, Option, Some, None}
+use Rattle.std.specs.Prelude.{ℕ, ◌^◌, ◌==◌, ◌||◌, not, nat_eq, nat_lt, is_none, Bool, false, List, ◌++◌, map, Option, Some, None}
 use Rattle.med_base.specs.declared.status.Part.TheVariants as part
 use Rattle.text_reading.specs.Faults.{broken_if, index_past, indices_where}
 use Rattle.plan_reader.specs.Fragments.{joins_written}

@@ -1,5 +1,5 @@
 -- What a document says as a plan, part by part.
-use Rattle.std.specs.Prelude.{ℕ, ◌*◌, ◌^◌, ◌==◌, Bool, List, [], ◌∷◌, map, length, codes, if◌then◌else◌}
+use Rattle.std.specs.Prelude.{ℕ, ◌^◌, ◌==◌, List, map, length, codes, if◌then◌else◌}
 use Rattle.std.specs.List.{filter_map}
 use Rattle.toml.specs.Data.{Members}
 use Rattle.rule_reader.specs.declared.rule.Method.{Method}

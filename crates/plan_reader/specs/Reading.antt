@@ -1,5 +1,5 @@
 -- What a text says as a plan, or the first check that it breaks and where.
-use Rattle.std.specs.Prelude.{◌≡◌, ⊤, ℕ, nat_le, ◌&&◌, not, is_none, Bool, if◌then◌else◌, List, [], ◌∷◌, length, Option, Some, None, Result, Ok, Err}
+use Rattle.std.specs.Prelude.{◌≡◌, ⊤, ℕ, nat_le, not, Bool, if◌then◌else◌, List, [], ◌∷◌, length, Option, Some, None, Result, Ok, Err}
 use Rattle.std.specs.Str.{is_utf8}
 use Rattle.toml.specs.Data.{Members}
 use Rattle.toml.specs.Parse.{parse_document}

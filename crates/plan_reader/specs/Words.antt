@@ -1,5 +1,5 @@
 -- What the words and keys of a plan say.
-use Rattle.std.specs.Prelude.{ℕ, ℤ, pos, negsuc, ◌==◌, ◌&&◌, not, ◌^◌, ◌-◌, Bool, List, [], ◌∷◌, length, take, drop, codes, nat_eq, Option, Some, None, option_map, option_and_then, if◌then◌else◌}
+use Rattle.std.specs.Prelude.{ℕ, ℤ, pos, negsuc, ◌==◌, ◌&&◌, not, ◌^◌, ◌-◌, Bool, [], ◌∷◌, length, take, drop, codes, nat_eq, Option, Some, None, option_map, option_and_then, if◌then◌else◌}
 use Rattle.std.specs.Char.{is_ascii_digit}
 use Rattle.std.specs.Cmp.Lexicographic.{pointwise}
 use Rattle.std.specs.List.{list_all}

@@ -1,4 +1,4 @@
-use Rattle.std.proofs.Common.{◌≡◌, ◌++◌, drop, map, take, Bor, List, ℕ}
+use Rattle.std.proofs.Common.{◌≡◌, ◌++◌, drop, map}
 use Rattle.plan_reader.specs.Fragments.{names_of}
 use Rattle.plan_reader.proofs.fragments.fragment_names.Given as goal
 

@@ -1,4 +1,4 @@
-use Rattle.std.proofs.Common.{◌≡◌, ◌++◌, drop, map, take, Bor, List, ℕ}
+use Rattle.std.proofs.Common.{◌≡◌}
 use Rattle.std.specs.List.{filter_map}
 use Rattle.plan_reader.specs.Fragments.{fragment_read}
 use Rattle.plan_reader.proofs.fragments.fragments_read.Given as goal

@@ -1,4 +1,4 @@
-use Rattle.std.proofs.Common.{◌≡◌, ◌++◌, drop, map, take, Bor, List, ℕ}
+use Rattle.std.proofs.Common.{◌≡◌}
 use Rattle.plan_reader.specs.Items.{present}
 use Rattle.plan_reader.proofs.items.present.Given as goal
 

@@ -1,4 +1,4 @@
-use Rattle.std.proofs.Common.{◌≡◌, ◌++◌, drop, map, take, Bor, List, ℕ}
+use Rattle.std.proofs.Common.{◌≡◌, ◌++◌, drop, map}
 use Rattle.plan_reader.proofs.items.read_items.Given as goal
 
 -- the items so far stand before those that are left

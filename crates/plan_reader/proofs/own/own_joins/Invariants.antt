@@ -1,4 +1,4 @@
-use Rattle.std.proofs.Common.{◌≡◌, ◌++◌, drop, map, take, Bor, List, ℕ}
+use Rattle.std.proofs.Common.{◌≡◌, ◌++◌, drop, map}
 use Rattle.plan_reader.specs.Own.{own_joins}
 use Rattle.plan_reader.proofs.own.own_joins.Given as goal
 

@@ -1,4 +1,4 @@
-use Rattle.std.proofs.Common.{◌≡◌, ◌++◌, drop, map, take, Bor, List, ℕ}
+use Rattle.std.proofs.Common.{◌≡◌, map, take, Bor, List, ℕ}
 use Rattle.plan_reader.specs.Own.{rule_name}
 use Rattle.plan_reader.proofs.own.rule_names.Given as goal
 

@@ -1,4 +1,4 @@
-use Rattle.std.proofs.Common.{◌≡◌, ◌++◌, drop, map, take, Bor, List, ℕ}
+use Rattle.std.proofs.Common.{◌≡◌, map, take, Bor, List, ℕ}
 use Rattle.plan_reader.specs.Settings.{rule_names}
 use Rattle.plan_reader.proofs.settings.rule_names.Given as goal
 

@@ -1,4 +1,4 @@
-use Rattle.std.proofs.Common.{◌≡◌, ◌≤◌, ◌-◌, length, arith, ap, ◌∙◌}
+use Rattle.std.proofs.Common.{◌≤◌, length, arith, ap, ◌∙◌}
 use Rattle.join_trees.specs.Shapes.{joined, stack_of}
 use Rattle.join_trees.proofs.ShapeLaws.{join_length, join_nodes, join_stack}
 use Rattle.join_trees.proofs.stack.Stack.join.Goals as goal

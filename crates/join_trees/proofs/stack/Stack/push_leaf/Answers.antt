@@ -1,5 +1,5 @@
-use Rattle.std.proofs.Common.{◌≡◌, ◌+◌, ◌∷◌, List, length, arith, ap, ◌∙◌}
-use Rattle.join_trees.specs.Shapes.{Shape, stack_of, tip}
+use Rattle.std.proofs.Common.{◌∷◌, List, length, arith, ap, ◌∙◌}
+use Rattle.join_trees.specs.Shapes.{Shape, tip}
 use Rattle.join_trees.proofs.ShapeLaws.{leaf_nodes, leaf_stack}
 use Rattle.join_trees.proofs.stack.Stack.push_leaf.Goals as goal
 
