@@ -8,6 +8,8 @@
 //! `grammar_is_exact` has no code. Its clauses are the law that what is read is spelled so, and that a refusal is at
 //! the first token with which no rule can go on.
 //!
+//! `part_in`, `whole`, `dotted` and `number_told` read names and numbers, for other readers of a plan's texts.
+//!
 //! Definitions:
 //! - `specs/Grammar.antt`: how a rule is spelled, its limits, and where tokens break the grammar;
 //! - `specs/Naming.antt`, `specs/Keywords.antt`, `specs/Tokens.antt`: the names, the words and the tokens of a text;
@@ -29,5 +31,7 @@ mod tests;
 mod token;
 
 pub use laws::grammar_is_exact;
+pub use naming::{dotted, part_in, whole};
 pub use reading::{LONGEST_RULE, RuleFault, read_rule};
 pub use rule::{Action, Amount, Condition, Event, Method, NumberOp, Rule};
+pub use token::{begins_space, ends_space, is_space, number_told};

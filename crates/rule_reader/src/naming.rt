@@ -47,7 +47,7 @@ fn member_in(bytes: &[u8]) -> Option<MemberName>
 }
 
 /// The number that all bytes write.
-fn whole(bytes: &[u8]) -> Option<u32>
+pub fn whole(bytes: &[u8]) -> Option<u32>
     ensures { result ≡ whole bytes.now }
 {
     match number_front(bytes) {
@@ -63,7 +63,7 @@ fn whole(bytes: &[u8]) -> Option<u32>
 }
 
 /// The number that bytes begin with, and how many bytes it takes with the dot after it.
-fn dotted(bytes: &[u8]) -> Option<(u32, usize)>
+pub fn dotted(bytes: &[u8]) -> Option<(u32, usize)>
     ensures value { result ≡ dotted bytes.now }
     ensures within { IfSome result (λ read. read.1 ≤ length bytes.now) }
 {

@@ -1,0 +1,4 @@
+pub mod ShapeLaws
+pub mod TokenLaws
+pub mod ReadingLaws
+pub mod TreeLaws

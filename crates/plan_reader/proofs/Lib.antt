@@ -1,0 +1,4 @@
+pub mod LocationLaws
+pub mod ItemLaws
+pub mod FormLaws
+pub mod RefusalLaws

@@ -1,0 +1,12 @@
+pub mod Locations
+pub mod Faults
+pub mod Words
+pub mod Entries
+pub mod Items
+pub mod Fragments
+pub mod Settings
+pub mod Parts
+pub mod Forms
+pub mod Limits
+pub mod Reading
+pub mod Own
