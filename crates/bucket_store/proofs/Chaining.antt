@@ -30,11 +30,14 @@ last_new test xs hash passes = record {
 -- another slot spans what it spanned
 spans_other : (o : Option Chain) (test : ℕ → Bool) (xs : List ℕ) (hash : ℕ) → Spans o test xs → test hash ≡ false → Spans o test (xs ++ hash ∷ [])
 spans_other None test xs hash h fails = more_fails test xs hash 0 h fails
-spans_other (Some chain) test xs hash h fails = (more_some test xs hash 0 chain.first h.0, record {
-  inside = let l = h.1.inside in omega (arith, length_push xs hash);
-  passes = subst (λ x. test x ≡ true) (sym (get_or_append_left xs (hash ∷ []) 0 chain.last h.1.inside)) h.1.passes;
-  last = more_fails test xs hash (chain.last + 1) h.1.last fails;
-})
+spans_other (Some chain) test xs hash h fails = (
+  more_some test xs hash 0 chain.first h.0,
+  record {
+    inside = let l = h.1.inside in omega (arith, length_push xs hash);
+    passes = subst (λ x. test x ≡ true) (sym (get_or_append_left xs (hash ∷ []) 0 chain.last h.1.inside)) h.1.passes;
+    last = more_fails test xs hash (chain.last + 1) h.1.last fails;
+  },
+)
 
 -- a place that passes and isn't the last is followed by another one
 not_last : (test : ℕ → Bool) (xs : List ℕ) (last place : ℕ) → IsLastPlace test xs last → place < length xs → test (get_or xs place 0) ≡ true → (place ≡ last → ⊥) → next_place test xs (place + 1) ≡ None → ⊥
@@ -103,9 +106,10 @@ chained_first slots links chain link h room empty first last ends =
     spans : (t : ℕ) → t < count → Spans (get_or (set slots slot (Some chain)) t None) (in_slot count t) (xs ++ link.hash ∷ [])
     spans t inside = elim (cases_eq t slot) [
       | inl same ↦ subst (λ u. Spans (get_or (set slots slot (Some chain)) u None) (in_slot count u) (xs ++ link.hash ∷ [])) (sym same)
-          (subst (λ o. Spans o (in_slot count slot) (xs ++ link.hash ∷ [])) (sym (get_or-set_same slots slot (Some chain) None (omega arith)))
-          (more_passes (in_slot count slot) xs link.hash 0 none (omega arith) (own_slot count link.hash) ∙ ap Some (many ∙ sym first),
-          subst (IsLastPlace (in_slot count slot) (xs ++ link.hash ∷ [])) (many ∙ sym last) (last_new (in_slot count slot) xs link.hash (own_slot count link.hash))))
+          (subst (λ o. Spans o (in_slot count slot) (xs ++ link.hash ∷ [])) (sym (get_or-set_same slots slot (Some chain) None (omega arith))) (
+            more_passes (in_slot count slot) xs link.hash 0 none (omega arith) (own_slot count link.hash) ∙ ap Some (many ∙ sym first),
+            subst (IsLastPlace (in_slot count slot) (xs ++ link.hash ∷ [])) (many ∙ sym last) (last_new (in_slot count slot) xs link.hash (own_slot count link.hash)),
+          ))
       | inr other ↦ subst (λ o. Spans o (in_slot count t) (xs ++ link.hash ∷ [])) (sym (get_or-set_other slots slot t (Some chain) None other))
           (spans_other (get_or slots t None) (in_slot count t) xs link.hash (h.spans t inside) (other_slot count t link.hash other))
     ]
@@ -172,9 +176,10 @@ chained_after slots links old chain before link h room there first last kept joi
     spans : (t : ℕ) → t < count → Spans (get_or (set slots slot (Some chain)) t None) (in_slot count t) (xs ++ link.hash ∷ [])
     spans t inside = elim (cases_eq t slot) [
       | inl same ↦ subst (λ u. Spans (get_or (set slots slot (Some chain)) u None) (in_slot count u) (xs ++ link.hash ∷ [])) (sym same)
-          (subst (λ o. Spans o (in_slot count slot) (xs ++ link.hash ∷ [])) (sym (get_or-set_same slots slot (Some chain) None (omega arith)))
-          (more_some (in_slot count slot) xs link.hash 0 old.first span.0 ∙ ap Some (sym first),
-          subst (IsLastPlace (in_slot count slot) (xs ++ link.hash ∷ [])) (many ∙ sym last) (last_new (in_slot count slot) xs link.hash (own_slot count link.hash))))
+          (subst (λ o. Spans o (in_slot count slot) (xs ++ link.hash ∷ [])) (sym (get_or-set_same slots slot (Some chain) None (omega arith))) (
+            more_some (in_slot count slot) xs link.hash 0 old.first span.0 ∙ ap Some (sym first),
+            subst (IsLastPlace (in_slot count slot) (xs ++ link.hash ∷ [])) (many ∙ sym last) (last_new (in_slot count slot) xs link.hash (own_slot count link.hash)),
+          ))
       | inr other ↦ subst (λ o. Spans o (in_slot count t) (xs ++ link.hash ∷ [])) (sym (get_or-set_other slots slot t (Some chain) None other))
           (spans_other (get_or slots t None) (in_slot count t) xs link.hash (h.spans t inside) (other_slot count t link.hash other))
     ]

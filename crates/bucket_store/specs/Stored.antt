@@ -13,7 +13,7 @@ abbrev pub held_at : List Bytes → Stored → Held
 held_at pages stored = record {
   key = take stored.key_length (piece_at pages stored.spot);
   row = row_of (drop stored.key_length (piece_at pages stored.spot));
-  number = stored.number
+  number = stored.number;
 }
 
 pub record IsStored (pages : List Bytes) (stored : Stored) : Type 0 where

@@ -78,7 +78,13 @@ impl Bucket {
 
     /// Puts a row behind the others. Where memory runs out, or at 2^32 - 1 rows or 2^32 bytes of a row with its key, the
     /// bucket is as it was.
-    pub(crate) fn push(&mut self, alloc: Global, key: &[u8], row: &Row, number: u64) -> Result<(), AllocError>
+    pub(crate) fn push(
+        &mut self,
+        alloc: Global,
+        key: &[u8],
+        row: &Row,
+        number: u64,
+    ) -> Result<(), AllocError>
         ensures ok { OnOk result (self.new ≡ self.old ++ record { key = key.now; row = row.now; number = number } ∷ []) }
         ensures err { OnErr result (self.new ≡ self.old) }
     {
@@ -108,7 +114,9 @@ impl Bucket {
         ensures row { IsEncoding result.1.now × (row_of result.1.now ≡ (slice_index_or self.now place no_row).row) }
     {
         let stored = self.entries[place];
-        self.pages.piece(stored.spot).split_at(stored.key_length as usize)
+        self.pages
+            .piece(stored.spot)
+            .split_at(stored.key_length as usize)
     }
 
     /// The first place, at or after one, of a row that has the key.

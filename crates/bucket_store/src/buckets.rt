@@ -66,7 +66,13 @@ impl Buckets {
     /// Puts a copy of a row behind the others of its key's bucket. Where memory runs out, nothing has changed. So it is
     /// too where the bucket has 2^32 - 1 rows, where a row with its key has 2^32 bytes, and where all rows together
     /// would weigh more than [`Self::GREATEST_TOTAL`].
-    pub fn insert(&mut self, alloc: Global, key: &[u8], row: &Row, number: u64) -> Result<(), AllocError>
+    pub fn insert(
+        &mut self,
+        alloc: Global,
+        key: &[u8],
+        row: &Row,
+        number: u64,
+    ) -> Result<(), AllocError>
         ensures ok { OnOk result (self.new ≡ with_row self.old (record { key = key.now; row = row.now; number = number })) }
         ensures fits { FitsRow row.now }
         ensures err { OnErr result (self.new ≡ self.old) }
@@ -106,7 +112,9 @@ impl Buckets {
         requires place { place < length (rows_in self.now bucket) }
         ensures { IfOk result (λ row. row ≡ (slice_index_or (rows_in self.now bucket) place no_row).row) }
     {
-        self.buckets[bucket as usize].row(place as usize).to_row(alloc)
+        self.buckets[bucket as usize]
+            .row(place as usize)
+            .to_row(alloc)
     }
 
     /// How heavy each bucket is: the bytes of its rows' encodings, without their keys.

@@ -119,7 +119,11 @@ fn append(slots: &mut Vec<Option<Chain>>, links: &mut Vec<Link>, hash: u32)
 }
 
 // Room for one link more: where all slots have one, twice as many, into which the hashes are put anew.
-fn make_room(alloc: Global, slots: &mut Vec<Option<Chain>>, links: &mut Vec<Link>) -> Result<(), AllocError>
+fn make_room(
+    alloc: Global,
+    slots: &mut Vec<Option<Chain>>,
+    links: &mut Vec<Link>,
+) -> Result<(), AllocError>
     requires chained { AreChained slots.old.items links.old.items }
     requires few { length links.old.items < 2 ^ 32 }
     ensures chained { AreChained slots.new.items links.new.items }

@@ -85,7 +85,7 @@ module _ (mine theirs : List HeldList) (p : Probing) (own : Held) (place : ℕ) 
       at_own same =
           let here : k < length (rows_in mine p.bucket) = subst (λ x. k < length (rows_in mine x)) same there in
           let number : (get_or (rows_in mine p.bucket) k d).number ≡ (get_or (rows_in mine p.bucket) (length f.others) d).number
-              = subst (λ x. (get_or (rows_in mine x) k d).number ≡ p.number) same (eqb-true _ p.number both.1) ∙ (sym f.number_is ∙ sym (ap (λ (x : Held). x.number) (own_at f d))) in
+          = subst (λ x. (get_or (rows_in mine x) k d).number ≡ p.number) same (eqb-true _ p.number both.1) ∙ (sym f.number_is ∙ sym (ap (λ (x : Held). x.number) (own_at f d))) in
           subst (λ x. get_or (rows_in mine x) k d ≡ own) (sym same)
           (ap (λ i. get_or (rows_in mine p.bucket) i d) (one_place (rows_in mine p.bucket) k (length f.others) d d f.mine_rising here (own_inside f) number) ∙ own_at f d)
 
@@ -163,12 +163,12 @@ module _ (mine theirs : List HeldList) (p : Probing) (own : Held) (place : ℕ) 
                   earlier (same_key x.key y.key) (is_own (length mine) p x) (nat_le p.from y.number) (nat_le (partner.number + 1) y.number) (is_row own x) (is_row partner y)
                   match (lt-leb p.from y.number less) (lt-leb (partner.number + 1) y.number (omega (arith, less, from_partner)))
               | inr after ↦ absurd (false≢true (sym (here.first j after below) ∙ subst (λ (h : Held). same_key h.key own.key ≡ true)
-                    (at ∙ get_or_default (rows_in theirs p.bucket) j e partner here_on) (keys_same y.key own.key key)))
+                  (at ∙ get_or_default (rows_in theirs p.bucket) j e partner here_on) (keys_same y.key own.key key)))
             ]
             | inr (inr above) ↦
                 let rises : partner.number < y.number = subst (λ h. partner.number < h.number) (sym at)
-                    (subst (λ h. h.number < (get_or (rows_in theirs p.bucket) j e).number) (get_or_default (rows_in theirs p.bucket) q e partner here.inside ∙ is)
-                    (f.theirs_rising q j e above here_on)) in
+                (subst (λ h. h.number < (get_or (rows_in theirs p.bucket) j e).number) (get_or_default (rows_in theirs p.bucket) q e partner here.inside ∙ is)
+                (f.theirs_rising q j e above here_on)) in
                 later (same_key x.key y.key) (is_own (length mine) p x) (nat_le p.from y.number) (nat_le (partner.number + 1) y.number) (is_row own x) (is_row partner y)
                 (le-leb p.from y.number (omega (arith, rises, from_partner))) (le-leb (partner.number + 1) y.number (omega (arith, rises)))
                 (is_no_row partner y (λ k n. omega (arith, n, rises)))

@@ -146,13 +146,14 @@ module _ (shape : Shape) (sides : TwoSides) (left_ended right_ended : Bool) (nex
         → next_place (has_key own.key) (rows_in (buckets_on (opposite p.side) sides) p.bucket) place ≡ None
         → GivesNothing (state (Some p)) (state None) × JoinStep (state (Some p)) (state None) [] [] []
     nothing_given own place f many none = (
-        record { none = pairs_alike (λ l r. is_match l r && (have_met (state (Some p)) l r && is_pending (state (Some p)) l r)) (λ l r. false) (rows_of (map open_pile sides.left)) (rows_of (map open_pile sides.right)) (on_rows (λ l r. is_match l r && (have_met (state (Some p)) l r && is_pending (state (Some p)) l r)) (λ l r. false) pending) ∙ no_pairs (rows_of (map open_pile sides.left)) (rows_of (map open_pile sides.right)); ended = refl },
-        record {
-          shape = refl;
-          left = bag_from_same (sym (append-nil _));
-          right = bag_from_same (sym (append-nil _));
-          given = bag_from_same (ap (map (λ p. glued shape p.0.row p.1.row)) (pairs_alike (is_given (state None)) (is_given (state (Some p))) (rows_of (map open_pile sides.left)) (rows_of (map open_pile sides.right)) (on_rows (is_given (state None)) (is_given (state (Some p))) same_given)) ∙ sym (append-nil _));
-        })
+      record { none = pairs_alike (λ l r. is_match l r && (have_met (state (Some p)) l r && is_pending (state (Some p)) l r)) (λ l r. false) (rows_of (map open_pile sides.left)) (rows_of (map open_pile sides.right)) (on_rows (λ l r. is_match l r && (have_met (state (Some p)) l r && is_pending (state (Some p)) l r)) (λ l r. false) pending) ∙ no_pairs (rows_of (map open_pile sides.left)) (rows_of (map open_pile sides.right)); ended = refl },
+      record {
+        shape = refl;
+        left = bag_from_same (sym (append-nil _));
+        right = bag_from_same (sym (append-nil _));
+        given = bag_from_same (ap (map (λ p. glued shape p.0.row p.1.row)) (pairs_alike (is_given (state None)) (is_given (state (Some p))) (rows_of (map open_pile sides.left)) (rows_of (map open_pile sides.right)) (on_rows (is_given (state None)) (is_given (state (Some p))) same_given)) ∙ sym (append-nil _));
+      },
+    )
       where
         left_over : AlikeOn (all_in sides.left) (all_in sides.right) (λ l r. is_match l r && pends_on p.side (length sides.left) (probing_of p) l r) (λ l r. false)
         left_over = none_pending p.side (probing_of p) own place f many none
@@ -276,7 +277,7 @@ module _ (shape : Shape) (sides : TwoSides) (left_ended right_ended : Bool) (nex
       → SameBag (given_rows (state None)) (joined_rows shape (stored_rows side.Left (state None)) (stored_rows side.Right (state None)))
   all_given hl hr = bag_from_same (
       ap (map (λ p. glued shape p.0.row p.1.row)) (pairs_alike (is_given (state None)) is_match (rows_of (map open_pile sides.left)) (rows_of (map open_pile sides.right))
-          (alike_all (rows_of (map open_pile sides.left)) (rows_of (map open_pile sides.right)) (is_given (state None)) is_match (λ l r. given_is None l r ∙ and_turned (is_match l r) true)))
+      (alike_all (rows_of (map open_pile sides.left)) (rows_of (map open_pile sides.right)) (is_given (state None)) is_match (λ l r. given_is None l r ∙ and_turned (is_match l r) true)))
       ∙ joined_is (rows_of (map open_pile sides.left)) (rows_of (map open_pile sides.right)) (subst (AllByRecursion (IsHeld side.Left shape next)) (sym (rows_open sides.left)) (each_in (IsHeld side.Left shape next) sides.left hl))
       (subst (AllByRecursion (IsHeld side.Right shape next)) (sym (rows_open sides.right)) (each_in (IsHeld side.Right shape next) sides.right hr)))
 

@@ -38,7 +38,7 @@ joining_of shape sides left_ended right_ended next probe = record {
   right_ended = right_ended;
   next = next;
   probe = option_map probing_of probe;
-  cursor = cursor_start
+  cursor = cursor_start;
 }
 
 -- the row of a side and one of the other side, glued in the order of the sides

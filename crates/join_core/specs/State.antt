@@ -58,7 +58,7 @@ fresh_join buckets shape = record {
   right_ended = false;
   next = 0;
   probe = None;
-  cursor = cursor_start
+  cursor = cursor_start;
 }
 
 abbrev pub piles_of : Side → Joining → List Pile

@@ -164,7 +164,13 @@ fn are_all(first: bool, second: bool, third: bool) -> bool
 }
 
 // The probe's row and the facing one at a place, glued in the order of the sides.
-fn glue_at(alloc: Global, shape: &JoinShape, facing: &Buckets, probe: &Probe, place: u32) -> Result<Row, AllocError>
+fn glue_at(
+    alloc: Global,
+    shape: &JoinShape,
+    facing: &Buckets,
+    probe: &Probe,
+    place: u32,
+) -> Result<Row, AllocError>
     requires bucket { probe.now.bucket < length facing.now }
     requires place { place < length (rows_in facing.now probe.now.bucket) }
     requires own { length probe.now.row ≡ length (vars_of probe.now.side shape.now) }

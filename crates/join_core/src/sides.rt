@@ -57,7 +57,14 @@ impl Sides {
         }
     }
 
-    pub(crate) fn insert(&mut self, alloc: Global, side: Side, key: &[u8], row: &Row, number: u64) -> Result<(), AllocError>
+    pub(crate) fn insert(
+        &mut self,
+        alloc: Global,
+        side: Side,
+        key: &[u8],
+        row: &Row,
+        number: u64,
+    ) -> Result<(), AllocError>
         ensures ok { OnOk result (self.new ≡ with_buckets side self.old (with_row (buckets_on side self.old) (record { key = key.now; row = row.now; number = number }))) }
         ensures fits { FitsRow row.now }
         ensures err { OnErr result (self.new ≡ self.old) }

@@ -1,7 +1,6 @@
 //! What no clause says: that rows are taken and matches come, compared with answers by hand and with nested choice.
 
-ghost use Rattle.std.specs.Prelude.{◌≡◌, ◌≤◌, length, false, None, IfOk, OnOk};
-ghost use Rattle.row_match.specs.Shapes.{vars_of};
+ghost use Rattle.std.specs.Prelude.{◌≡◌, ◌<◌, length, None, IfOk, OnOk};
 ghost use Rattle.join_core.specs.Testing.{IsReady};
 
 use crate::{Arrive, Join, OutStep};
@@ -17,9 +16,7 @@ use tuple_core::{Row, Value};
 fn pair(alloc: Global, first: i64, second: i64) -> Result<Row, Fail>
     ensures { IfOk result (λ row. length row ≡ 2) }
 {
-    Ok(Row::new(
-        vec![in alloc; Value::Int(first), Value::Int(second)]?,
-    ))
+    Ok(Row::new(vec![in alloc; Value::Int(first), Value::Int(second)]?))
 }
 
 // A join of rows (x, y) and rows (y, z).
@@ -56,7 +53,13 @@ fn drain(alloc: Global, join: &mut Join, given: &mut Vec<Row>) -> Result<(), Fai
 }
 
 // A row comes, and gives all its matches.
-fn feed(alloc: Global, join: &mut Join, side: Side, row: Row, given: &mut Vec<Row>) -> Result<(), Fail>
+fn feed(
+    alloc: Global,
+    join: &mut Join,
+    side: Side,
+    row: Row,
+    given: &mut Vec<Row>,
+) -> Result<(), Fail>
     requires ready { IsReady join.old }
     requires wide { length row ≡ 2 }
     ensures { OnOk result (IsReady join.new) }
@@ -74,7 +77,13 @@ fn given(alloc: Global, join: Join, events: &[(Side, i64, i64)]) -> Result<Vec<R
     let mut join = join;
     let mut rows = Vec::new(alloc);
     for (side, first, second) in events {
-        feed(alloc, &mut join, *side, pair(alloc, *first, *second)?, &mut rows)?;
+        feed(
+            alloc,
+            &mut join,
+            *side,
+            pair(alloc, *first, *second)?,
+            &mut rows,
+        )?;
     }
     join.close(Side::Left);
     join.close(Side::Right);
@@ -85,9 +94,7 @@ fn given(alloc: Global, join: Join, events: &[(Side, i64, i64)]) -> Result<Vec<R
 }
 
 fn triple(alloc: Global, x: i64, y: i64, z: i64) -> Result<Row, Fail> {
-    Ok(Row::new(
-        vec![in alloc; Value::Int(x), Value::Int(y), Value::Int(z)]?,
-    ))
+    Ok(Row::new(vec![in alloc; Value::Int(x), Value::Int(y), Value::Int(z)]?))
 }
 
 /// The key 1 on both sides: the second row gives one match, the third one, and the fourth two.
@@ -103,7 +110,13 @@ fn each_row_gives_its_matches_at_once(rt: HostRuntime) -> Result<(), Fail> {
     ];
     let mut rows = Vec::new(alloc);
     for (side, first, second, so_far) in events {
-        feed(alloc, &mut join, side, pair(alloc, first, second)?, &mut rows)?;
+        feed(
+            alloc,
+            &mut join,
+            side,
+            pair(alloc, first, second)?,
+            &mut rows,
+        )?;
         assert_eq!(rt; rows.len(), so_far);
         assert!(rt; !join.finished());
     }
@@ -200,8 +213,16 @@ fn random_sides_give_what_nested_choice_gives(rt: HostRuntime) -> Result<(), Fai
         let mut events = Vec::new(alloc);
         for _ in 0..24 {
             random = random.wrapping_mul(1_664_525).wrapping_add(1_013_904_223);
-            let side = if random >> 31 == 0 { Side::Left } else { Side::Right };
-            events.push((side, i64::from((random >> 24) % 4), i64::from((random >> 16) % 4)))?;
+            let side = if random >> 31 == 0 {
+                Side::Left
+            } else {
+                Side::Right
+            };
+            events.push((
+                side,
+                i64::from((random >> 24) % 4),
+                i64::from((random >> 16) % 4),
+            ))?;
         }
         let mut rows = given(alloc, linked(alloc, 16)?, events.as_slice())?;
         let mut arrivals = Arrivals::new(alloc);

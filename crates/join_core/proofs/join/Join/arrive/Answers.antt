@@ -20,21 +20,21 @@ invariant_of-self-2 c =
     let key : c.as_slice-key.result.now ≡ row_encoding (key_row c.args.side c.self.inside.shape c.args.row) = c.as_slice-key.ensures ∙ c.key_of.ensures.key in
     let counted : c.in-Some.next ≡ c.self.inside.next + 1 = grind (arith, c.in-Some.ensures) in
     let bucket : c.bucket_of.result ≡ bucket_of (length (buckets_on c.args.side c.self.inside.sides)) c.as_slice-key.result.now
-        = c.bucket_of.ensures.bucket ∙ ap (λ n. bucket_of n c.as_slice-key.result.now) (c.count.ensures.count ∙ ap length c.on.ensures ∙ ap (λ ss. length (buckets_on c.args.side ss)) wrote ∙ count_kept c.args.side c.self.inside.sides held) in
+    = c.bucket_of.ensures.bucket ∙ ap (λ n. bucket_of n c.as_slice-key.result.now) (c.count.ensures.count ∙ ap length c.on.ensures ∙ ap (λ ss. length (buckets_on c.args.side ss)) wrote ∙ count_kept c.args.side c.self.inside.sides held) in
     let idle : c.self.inside.probe ≡ None = no_probe c.self.inside.probe (ap (λ (s : Joining). s.probe) c.self.view_is ∙ c.requires.idle) in
     let wide : length c.args.row ≡ length (vars_of c.args.side c.self.inside.shape) = c.requires.wide ∙ ap (λ (s : Joining). length (vars_of c.args.side s.shape)) (sym c.self.view_is) in
     let start : joining_of c.self.inside.shape c.self.inside.sides c.self.inside.left_ended c.self.inside.right_ended c.self.inside.next None ≡ c.args.self.now
-        = ap (joining_of c.self.inside.shape c.self.inside.sides c.self.inside.left_ended c.self.inside.right_ended c.self.inside.next) (sym idle) ∙ c.self.view_is in
+    = ap (joining_of c.self.inside.shape c.self.inside.sides c.self.inside.left_ended c.self.inside.right_ended c.self.inside.next) (sym idle) ∙ c.self.view_is in
     let probe : Probe = record { side = c.args.side; row = c.args.row; number = c.self.inside.next; bucket = c.bucket_of.result; place = 0; from = 0 } in
     let begins : probing_of probe ≡ begun c.args.side (length (buckets_on c.args.side c.self.inside.sides)) (kept_as c.args.side c.self.inside.shape c.args.row c.self.inside.next)
-        = ap (λ b. record { side = c.args.side; number = c.self.inside.next; bucket = b; from = 0 }) (bucket ∙ ap (bucket_of (length (buckets_on c.args.side c.self.inside.sides))) key) in
+    = ap (λ b. record { side = c.args.side; number = c.self.inside.next; bucket = b; from = 0 }) (bucket ∙ ap (bucket_of (length (buckets_on c.args.side c.self.inside.sides))) key) in
     let sides : c.insert.new.self ≡ with_buckets c.args.side c.self.inside.sides (with_row (buckets_on c.args.side c.self.inside.sides) (kept_as c.args.side c.self.inside.shape c.args.row c.self.inside.next))
-        = wrote ∙ ap (λ k. with_buckets c.args.side c.self.inside.sides (with_row (buckets_on c.args.side c.self.inside.sides) (record { key = k; row = c.args.row; number = c.self.inside.next }))) key in
+    = wrote ∙ ap (λ k. with_buckets c.args.side c.self.inside.sides (with_row (buckets_on c.args.side c.self.inside.sides) (record { key = k; row = c.args.row; number = c.self.inside.next }))) key in
     subst (λ ss. IsJoin c.self.inside.shape ss c.in-Some.next c.key_of.new.room (Some probe)) (sym wrote)
     (subst (λ n. IsJoin c.self.inside.shape (with_buckets c.args.side c.self.inside.sides (with_row (buckets_on c.args.side c.self.inside.sides) held)) n c.key_of.new.room (Some probe)) (sym counted)
     (subst (λ k. IsJoin c.self.inside.shape (with_buckets c.args.side c.self.inside.sides (with_row (buckets_on c.args.side c.self.inside.sides) held)) (c.self.inside.next + 1) k (Some probe)) c.as_slice-key.ensures
     (subst (λ b. IsJoin c.self.inside.shape (with_buckets c.args.side c.self.inside.sides (with_row (buckets_on c.args.side c.self.inside.sides) held)) (c.self.inside.next + 1) c.as_slice-key.result.now
-        (Some (record { side = c.args.side; row = c.args.row; number = c.self.inside.next; bucket = b; place = 0; from = 0 }))) (sym bucket)
+    (Some (record { side = c.args.side; row = c.args.row; number = c.self.inside.next; bucket = b; place = 0; from = 0 }))) (sym bucket)
     (keeps_arrival c.self.inside.shape c.self.inside.sides c.self.inside.next c.as_slice-key.result.now c.self.inside.key c.args.row c.self.inside.probe c.self.invariant c.in_default-insert.ensures.fits c.args.side key wide))))
 
 pub returns-clause-arrives : goal.returns-clause-arrives
@@ -44,16 +44,16 @@ returns-clause-arrives c =
     let key : c.as_slice-key.result.now ≡ row_encoding (key_row c.args.side c.self.inside.shape c.args.row) = c.as_slice-key.ensures ∙ c.key_of.ensures.key in
     let counted : c.in-Some.next ≡ c.self.inside.next + 1 = grind (arith, c.in-Some.ensures) in
     let bucket : c.bucket_of.result ≡ bucket_of (length (buckets_on c.args.side c.self.inside.sides)) c.as_slice-key.result.now
-        = c.bucket_of.ensures.bucket ∙ ap (λ n. bucket_of n c.as_slice-key.result.now) (c.count.ensures.count ∙ ap length c.on.ensures ∙ ap (λ ss. length (buckets_on c.args.side ss)) wrote ∙ count_kept c.args.side c.self.inside.sides held) in
+    = c.bucket_of.ensures.bucket ∙ ap (λ n. bucket_of n c.as_slice-key.result.now) (c.count.ensures.count ∙ ap length c.on.ensures ∙ ap (λ ss. length (buckets_on c.args.side ss)) wrote ∙ count_kept c.args.side c.self.inside.sides held) in
     let idle : c.self.inside.probe ≡ None = no_probe c.self.inside.probe (ap (λ (s : Joining). s.probe) c.self.view_is ∙ c.requires.idle) in
     let wide : length c.args.row ≡ length (vars_of c.args.side c.self.inside.shape) = c.requires.wide ∙ ap (λ (s : Joining). length (vars_of c.args.side s.shape)) (sym c.self.view_is) in
     let start : joining_of c.self.inside.shape c.self.inside.sides c.self.inside.left_ended c.self.inside.right_ended c.self.inside.next None ≡ c.args.self.now
-        = ap (joining_of c.self.inside.shape c.self.inside.sides c.self.inside.left_ended c.self.inside.right_ended c.self.inside.next) (sym idle) ∙ c.self.view_is in
+    = ap (joining_of c.self.inside.shape c.self.inside.sides c.self.inside.left_ended c.self.inside.right_ended c.self.inside.next) (sym idle) ∙ c.self.view_is in
     let probe : Probe = record { side = c.args.side; row = c.args.row; number = c.self.inside.next; bucket = c.bucket_of.result; place = 0; from = 0 } in
     let begins : probing_of probe ≡ begun c.args.side (length (buckets_on c.args.side c.self.inside.sides)) (kept_as c.args.side c.self.inside.shape c.args.row c.self.inside.next)
-        = ap (λ b. record { side = c.args.side; number = c.self.inside.next; bucket = b; from = 0 }) (bucket ∙ ap (bucket_of (length (buckets_on c.args.side c.self.inside.sides))) key) in
+    = ap (λ b. record { side = c.args.side; number = c.self.inside.next; bucket = b; from = 0 }) (bucket ∙ ap (bucket_of (length (buckets_on c.args.side c.self.inside.sides))) key) in
     let sides : c.insert.new.self ≡ with_buckets c.args.side c.self.inside.sides (with_row (buckets_on c.args.side c.self.inside.sides) (kept_as c.args.side c.self.inside.shape c.args.row c.self.inside.next))
-        = wrote ∙ ap (λ k. with_buckets c.args.side c.self.inside.sides (with_row (buckets_on c.args.side c.self.inside.sides) (record { key = k; row = c.args.row; number = c.self.inside.next }))) key in
+    = wrote ∙ ap (λ k. with_buckets c.args.side c.self.inside.sides (with_row (buckets_on c.args.side c.self.inside.sides) (record { key = k; row = c.args.row; number = c.self.inside.next }))) key in
     ap (λ ss. joining_of c.self.inside.shape ss c.self.inside.left_ended c.self.inside.right_ended c.in-Some.next (Some probe)) sides
     ∙ ap (λ n. joining_of c.self.inside.shape (with_buckets c.args.side c.self.inside.sides (with_row (buckets_on c.args.side c.self.inside.sides) (kept_as c.args.side c.self.inside.shape c.args.row c.self.inside.next))) c.self.inside.left_ended c.self.inside.right_ended n (Some probe)) counted
     ∙ arrived_is c.args.side c.self.inside.shape c.self.inside.sides c.self.inside.left_ended c.self.inside.right_ended c.self.inside.next c.args.row probe begins
@@ -66,21 +66,21 @@ returns-clause-step c =
     let key : c.as_slice-key.result.now ≡ row_encoding (key_row c.args.side c.self.inside.shape c.args.row) = c.as_slice-key.ensures ∙ c.key_of.ensures.key in
     let counted : c.in-Some.next ≡ c.self.inside.next + 1 = grind (arith, c.in-Some.ensures) in
     let bucket : c.bucket_of.result ≡ bucket_of (length (buckets_on c.args.side c.self.inside.sides)) c.as_slice-key.result.now
-        = c.bucket_of.ensures.bucket ∙ ap (λ n. bucket_of n c.as_slice-key.result.now) (c.count.ensures.count ∙ ap length c.on.ensures ∙ ap (λ ss. length (buckets_on c.args.side ss)) wrote ∙ count_kept c.args.side c.self.inside.sides held) in
+    = c.bucket_of.ensures.bucket ∙ ap (λ n. bucket_of n c.as_slice-key.result.now) (c.count.ensures.count ∙ ap length c.on.ensures ∙ ap (λ ss. length (buckets_on c.args.side ss)) wrote ∙ count_kept c.args.side c.self.inside.sides held) in
     let idle : c.self.inside.probe ≡ None = no_probe c.self.inside.probe (ap (λ (s : Joining). s.probe) c.self.view_is ∙ c.requires.idle) in
     let wide : length c.args.row ≡ length (vars_of c.args.side c.self.inside.shape) = c.requires.wide ∙ ap (λ (s : Joining). length (vars_of c.args.side s.shape)) (sym c.self.view_is) in
     let start : joining_of c.self.inside.shape c.self.inside.sides c.self.inside.left_ended c.self.inside.right_ended c.self.inside.next None ≡ c.args.self.now
-        = ap (joining_of c.self.inside.shape c.self.inside.sides c.self.inside.left_ended c.self.inside.right_ended c.self.inside.next) (sym idle) ∙ c.self.view_is in
+    = ap (joining_of c.self.inside.shape c.self.inside.sides c.self.inside.left_ended c.self.inside.right_ended c.self.inside.next) (sym idle) ∙ c.self.view_is in
     let probe : Probe = record { side = c.args.side; row = c.args.row; number = c.self.inside.next; bucket = c.bucket_of.result; place = 0; from = 0 } in
     let begins : probing_of probe ≡ begun c.args.side (length (buckets_on c.args.side c.self.inside.sides)) (kept_as c.args.side c.self.inside.shape c.args.row c.self.inside.next)
-        = ap (λ b. record { side = c.args.side; number = c.self.inside.next; bucket = b; from = 0 }) (bucket ∙ ap (bucket_of (length (buckets_on c.args.side c.self.inside.sides))) key) in
+    = ap (λ b. record { side = c.args.side; number = c.self.inside.next; bucket = b; from = 0 }) (bucket ∙ ap (bucket_of (length (buckets_on c.args.side c.self.inside.sides))) key) in
     let sides : c.insert.new.self ≡ with_buckets c.args.side c.self.inside.sides (with_row (buckets_on c.args.side c.self.inside.sides) (kept_as c.args.side c.self.inside.shape c.args.row c.self.inside.next))
-        = wrote ∙ ap (λ k. with_buckets c.args.side c.self.inside.sides (with_row (buckets_on c.args.side c.self.inside.sides) (record { key = k; row = c.args.row; number = c.self.inside.next }))) key in
+    = wrote ∙ ap (λ k. with_buckets c.args.side c.self.inside.sides (with_row (buckets_on c.args.side c.self.inside.sides) (record { key = k; row = c.args.row; number = c.self.inside.next }))) key in
     subst (λ s. JoinStep s (joining_of c.self.inside.shape c.insert.new.self c.self.inside.left_ended c.self.inside.right_ended c.in-Some.next (Some probe)) (on_side c.args.side which.Left (c.args.row ∷ [])) (on_side c.args.side which.Right (c.args.row ∷ [])) []) start
     (subst (λ ss. JoinStep (joining_of c.self.inside.shape c.self.inside.sides c.self.inside.left_ended c.self.inside.right_ended c.self.inside.next None) (joining_of c.self.inside.shape ss c.self.inside.left_ended c.self.inside.right_ended c.in-Some.next (Some probe)) (on_side c.args.side which.Left (c.args.row ∷ [])) (on_side c.args.side which.Right (c.args.row ∷ [])) []) (sym sides)
     (subst (λ n. JoinStep (joining_of c.self.inside.shape c.self.inside.sides c.self.inside.left_ended c.self.inside.right_ended c.self.inside.next None)
-        (joining_of c.self.inside.shape (with_buckets c.args.side c.self.inside.sides (with_row (buckets_on c.args.side c.self.inside.sides) (kept_as c.args.side c.self.inside.shape c.args.row c.self.inside.next))) c.self.inside.left_ended c.self.inside.right_ended n (Some probe))
-        (on_side c.args.side which.Left (c.args.row ∷ [])) (on_side c.args.side which.Right (c.args.row ∷ [])) []) (sym counted)
+    (joining_of c.self.inside.shape (with_buckets c.args.side c.self.inside.sides (with_row (buckets_on c.args.side c.self.inside.sides) (kept_as c.args.side c.self.inside.shape c.args.row c.self.inside.next))) c.self.inside.left_ended c.self.inside.right_ended n (Some probe))
+    (on_side c.args.side which.Left (c.args.row ∷ [])) (on_side c.args.side which.Right (c.args.row ∷ [])) []) (sym counted)
     (arrive_step c.args.side c.self.inside.shape c.self.inside.sides c.self.inside.left_ended c.self.inside.right_ended c.self.inside.next c.args.row probe begins
     (bucket_inside (buckets_on c.args.side c.self.inside.sides) (row_encoding (key_row c.args.side c.self.inside.shape c.args.row)) (side_on c.args.side c.self.inside.shape c.self.inside.sides c.self.inside.next c.self.invariant.left c.self.invariant.right).placed)
     (side_on c.args.side c.self.inside.shape c.self.inside.sides c.self.inside.next c.self.invariant.left c.self.invariant.right).each c.self.invariant.many)))

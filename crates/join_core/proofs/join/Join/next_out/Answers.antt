@@ -61,7 +61,7 @@ invariant_of-self-2 c =
     let facing = c.on-facing.ensures ∙ ap (λ o. buckets_on o c.self.inside.sides) c.opposite.ensures in
     let number = c.number-number.ensures ∙ c.entry.ensures ∙ ap (λ f. (get_or (rows_in f c.in-Some.probe.bucket) c.in-Some-probe.place no_row).number) facing in
     let moved = moves c.take.result c.moved_on.result c.in-Some.probe (c.in-Some-probe.place + 1) (c.number-number.result + 1) c.in-Some-probe.place (get_or (facing_rows c.self.inside.sides c.in-Some.probe) c.in-Some-probe.place no_row).number
-        c.moved_on.ensures (c.take.ensures.value ∙ c.in-Some.is) refl (ap (λ n. n + 1) number) in
+    c.moved_on.ensures (c.take.ensures.value ∙ c.in-Some.is) refl (ap (λ n. n + 1) number) in
     keeps_row c.self.inside.shape c.self.inside.sides c.self.inside.next c.self.inside.key c.in-Some.probe joined c.moved_on.result c.in-Some-probe.place found moved
 
 pub returns-clause-gives : goal.returns-clause-gives
@@ -71,7 +71,7 @@ returns-clause-gives c =
     let facing = c.on-facing.ensures ∙ ap (λ o. buckets_on o c.self.inside.sides) c.opposite.ensures in
     let number = c.number-number.ensures ∙ c.entry.ensures ∙ ap (λ f. (get_or (rows_in f c.in-Some.probe.bucket) c.in-Some-probe.place no_row).number) facing in
     let moved = moves c.take.result c.moved_on.result c.in-Some.probe (c.in-Some-probe.place + 1) (c.number-number.result + 1) c.in-Some-probe.place (get_or (facing_rows c.self.inside.sides c.in-Some.probe) c.in-Some-probe.place no_row).number
-        c.moved_on.ensures (c.take.ensures.value ∙ c.in-Some.is) refl (ap (λ n. n + 1) number) in
+    c.moved_on.ensures (c.take.ensures.value ∙ c.in-Some.is) refl (ap (λ n. n + 1) number) in
     subst (λ s. Gives s (joining_of c.self.inside.shape c.self.inside.sides c.self.inside.left_ended c.self.inside.right_ended c.self.inside.next c.moved_on.result) c.in-Ok.glued)
     (ap (joining_of c.self.inside.shape c.self.inside.sides c.self.inside.left_ended c.self.inside.right_ended c.self.inside.next) (sym c.in-Some.is) ∙ c.self.view_is)
     (gives_row c.self.inside.shape c.self.inside.sides c.self.inside.next c.self.inside.key c.in-Some.probe joined c.self.inside.left_ended c.self.inside.right_ended c.moved_on.result c.in-Some-probe.place c.in-Ok.glued found moved
@@ -84,7 +84,7 @@ returns-clause-step c = gives_step c.args.self.now (joining_of c.self.inside.sha
     let facing = c.on-facing.ensures ∙ ap (λ o. buckets_on o c.self.inside.sides) c.opposite.ensures in
     let number = c.number-number.ensures ∙ c.entry.ensures ∙ ap (λ f. (get_or (rows_in f c.in-Some.probe.bucket) c.in-Some-probe.place no_row).number) facing in
     let moved = moves c.take.result c.moved_on.result c.in-Some.probe (c.in-Some-probe.place + 1) (c.number-number.result + 1) c.in-Some-probe.place (get_or (facing_rows c.self.inside.sides c.in-Some.probe) c.in-Some-probe.place no_row).number
-        c.moved_on.ensures (c.take.ensures.value ∙ c.in-Some.is) refl (ap (λ n. n + 1) number) in
+    c.moved_on.ensures (c.take.ensures.value ∙ c.in-Some.is) refl (ap (λ n. n + 1) number) in
     subst (λ s. Gives s (joining_of c.self.inside.shape c.self.inside.sides c.self.inside.left_ended c.self.inside.right_ended c.self.inside.next c.moved_on.result) c.in-Ok.glued)
     (ap (joining_of c.self.inside.shape c.self.inside.sides c.self.inside.left_ended c.self.inside.right_ended c.self.inside.next) (sym c.in-Some.is) ∙ c.self.view_is)
     (gives_row c.self.inside.shape c.self.inside.sides c.self.inside.next c.self.inside.key c.in-Some.probe joined c.self.inside.left_ended c.self.inside.right_ended c.moved_on.result c.in-Some-probe.place c.in-Ok.glued found moved
