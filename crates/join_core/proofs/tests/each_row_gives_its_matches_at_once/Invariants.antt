@@ -1,0 +1,5 @@
+use Rattle.join_core.specs.Testing.{IsReady}
+use Rattle.join_core.proofs.tests.each_row_gives_its_matches_at_once.Given as goal
+
+abbrev pub invariant-loop-side : goal.invariant-loop-side
+invariant-loop-side g l = IsReady l.join
