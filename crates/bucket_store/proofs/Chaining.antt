@@ -1,12 +1,12 @@
 -- Chains gain a place.
-use Rattle.std.proofs.Common.{◌≡◌, ◌<◌, ◌≤◌, ◌+◌, ◌%◌, ◌==◌, ◌++◌, ◌⊎◌, ℕ, Bool, true, false, List, [], ◌∷◌, length, get_or, set, take, replicate, map, Option, Some, None, inl, inr, refl, sym, ap, ap₂, subst, ◌∙◌, arith, length-append}
+use Rattle.std.proofs.Common.{◌≡◌, ◌<◌, ◌≤◌, ◌+◌, ◌%◌, ◌++◌, ℕ, Bool, true, false, List, [], ◌∷◌, length, get_or, set, take, replicate, Option, Some, None, inl, inr, refl, sym, ap, ap₂, subst, ◌∙◌, arith}
 use Rattle.std.proofs.lemmas.Bool.{cases_lt, cases_order, cases_eq, false≢true, eqb-true, eq-eqb}
 use Rattle.std.proofs.lemmas.List.{get_or_default, get_or-map, get_or-replicate, length-replicate, length-take-le, take_more, get_or-set_same, get_or-set_other, get_or_append_left, get_or_push, length-map, length-set, length_push, map-append, map-set, set-get_or}
 use Rattle.bucket_store.specs.Chained.{AreChained, IsLastPlace, Spans, hashes_of, in_slot}
 use Rattle.bucket_store.specs.Places.{next_place}
 use Rattle.bucket_store.specs.declared.chains.Chain.{Chain}
 use Rattle.bucket_store.specs.declared.chains.Link.{Link}
-use Rattle.bucket_store.proofs.Places.{is_next, more_fails, more_passes, more_some, next_past, none_next}
+use Rattle.bucket_store.proofs.Places.{more_fails, more_passes, more_some, next_past, none_next}
 
 -- `AreChained`, with the number of slots and the hashes by name
 record ChainedAt (count : ℕ) (hashes : List ℕ) (slots : List (Option Chain)) (links : List Link) : Type 0 where

@@ -1,13 +1,13 @@
 -- Buckets gain a row, lose their rows, and get them back.
-use Rattle.std.proofs.Common.{◌≡◌, ◌<◌, ◌≤◌, ◌+◌, ◌-◌, ◌++◌, ◌^◌, ℕ, zero, suc, List, [], ◌∷◌, length, get_or, set, map, replicate, inl, inr, refl, sym, ap, subst, ◌∙◌, arith}
-use Rattle.std.specs.List.{All, sum, sum_by}
+use Rattle.std.proofs.Common.{◌≡◌, ◌<◌, ◌≤◌, ◌+◌, ◌-◌, ◌++◌, ◌^◌, ℕ, zero, suc, List, [], ◌∷◌, length, get_or, set, replicate, inl, inr, refl, sym, ap, subst, ◌∙◌, arith}
+use Rattle.std.specs.List.{sum}
 use Rattle.std.proofs.lemmas.Bool.{cases_eq}
-use Rattle.std.proofs.lemmas.List.{get_or_default, get_or-replicate, length-replicate, get_or-map, get_or-set_other, get_or-set_same, length-map, length-set, map-set, set-get_or}
+use Rattle.std.proofs.lemmas.List.{get_or_default, get_or-replicate, length-replicate, get_or-map, get_or-set_other, get_or-set_same, length-map, length-set, map-set}
 use Rattle.std.proofs.lemmas.List.Elements.{All-push}
 use Rattle.std.proofs.lemmas.List.Sums.{get_or-le-sum_by, sum_by-cons, sum_by-set, sum_by_push}
 use Rattle.tuple_core.specs.Encoding.{row_weight}
 use Rattle.tuple_core.specs.Hashing.{bucket_of}
-use Rattle.bucket_store.specs.Held.{ArePlaced, BelongTo, Held, HeldList, greatest_total, rows_in, rows_weight, weights_of, with_row}
+use Rattle.bucket_store.specs.Held.{ArePlaced, BelongTo, Held, HeldList, greatest_total, rows_in, rows_weight, weights_of}
 use Rattle.bucket_store.specs.Stored.{AreKept}
 
 -- other rows in one bucket, of the same kind of keys
@@ -129,3 +129,19 @@ kept_none buckets weights count buckets_are weights_are some few =
   where
     many : length (replicate {A = HeldList} count []) ≡ count
     many = length-replicate count []
+
+-- ---- what a drained bucket leaves behind, and what may be put back
+
+pub bucket_emptied : (buckets after : List HeldList) (bucket : ℕ) → bucket < length buckets → after ≡ set buckets bucket [] → rows_in after bucket ≡ []
+bucket_emptied buckets after bucket inside is = ap (λ bs. rows_in bs bucket) is ∙ get_or-set_same buckets bucket [] [] inside
+
+pub drained_belong : (buckets after : List HeldList) (bucket : ℕ) (rows : HeldList) → ArePlaced buckets → bucket < length buckets → after ≡ set buckets bucket [] → rows ≡ rows_in buckets bucket → BelongTo (length after) bucket rows
+drained_belong buckets after bucket rows placed inside is rows_are =
+    subst (λ n. BelongTo n bucket rows) (sym (ap length is ∙ length-set buckets bucket [])) (subst (BelongTo (length buckets) bucket) (sym rows_are) (placed.each bucket inside))
+
+pub drained_light : (buckets after : List HeldList) (bucket : ℕ) (rows : HeldList) → sum (weights_of buckets) ≤ greatest_total → bucket < length buckets → after ≡ set buckets bucket [] → rows ≡ rows_in buckets bucket
+    → sum (weights_of after) + rows_weight rows ≤ greatest_total
+drained_light buckets after bucket rows light inside is rows_are = omega (arith, light, ap (λ bs. sum (weights_of bs)) is, ap rows_weight rows_are, sum_set buckets bucket [] inside)
+
+pub read_rows : (buckets : List HeldList) (bucket : ℕ) (rows read : HeldList) → bucket < length buckets → rows ≡ read → read ≡ get_or buckets bucket read → rows ≡ rows_in buckets bucket
+read_rows buckets bucket rows read inside is at = is ∙ (at ∙ get_or_default buckets bucket read [] inside)

@@ -47,6 +47,11 @@ rows_same old new [] g h = refl
 rows_same old new (stored ∷ entries) g h =
     ap₂ (λ held more. held ∷ more) (held_same old new stored g (h 0 stored (omega arith))) (rows_same old new entries g (λ k d inside. h (suc k) d (omega arith)))
 
+-- the same entries and hashes
+pub stored_alike : (pages : List Bytes) (entries entries_after : List Stored) (hashes hashes_after : List ℕ) (weight : ℕ) → entries_after ≡ entries → hashes_after ≡ hashes → AreStored pages entries hashes weight → AreStored pages entries_after hashes_after weight
+stored_alike pages entries entries_after hashes hashes_after weight e h stored =
+    subst (λ es. AreStored pages es hashes_after weight) (sym e) (subst (λ hs. AreStored pages entries hs weight) (sym h) stored)
+
 pub stored_grown : (old new : List Bytes) (entries : List Stored) (hashes : List ℕ) (weight : ℕ) → Grows old new → AreStored old entries hashes weight → AreStored new entries hashes weight
 stored_grown old new entries hashes weight g h =
     let same = sym (rows_same old new entries g h.each) in

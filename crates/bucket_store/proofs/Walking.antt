@@ -1,5 +1,5 @@
 -- A walk along a chain.
-use Rattle.std.proofs.Common.{◌≡◌, ◌<◌, ◌≤◌, ◌+◌, ◌-◌, ◌%◌, ◌==◌, ◌⊎◌, ℕ, Bool, true, false, List, length, get_or, Option, Some, None, IfSome, ◌^◌, max, inl, inr, refl, sym, ap, subst, ◌∙◌, arith}
+use Rattle.std.proofs.Common.{◌≡◌, ◌<◌, ◌≤◌, ◌+◌, ◌-◌, ◌%◌, ◌==◌, ◌⊎◌, ℕ, Bool, true, List, length, get_or, Option, Some, None, IfSome, ◌^◌, max, inl, inr, sym, ap, ◌∙◌, arith}
 use Rattle.std.proofs.lemmas.Bool.{cases_lt, eq-eqb, eqb-true, ne_eqb}
 use Rattle.std.proofs.lemmas.List.{length-map}
 use Rattle.bucket_store.specs.Chained.{AreChained, IsOnWay, hashes_of, in_slot}

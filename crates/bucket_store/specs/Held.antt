@@ -1,6 +1,6 @@
 -- The rows of one side of a join that are in memory: bucket by bucket, in the order in which they came.
-use Rattle.std.specs.Prelude.{◌≡◌, ◌<◌, ◌≤◌, ◌^◌, ℕ, Bool, List, [], ◌∷◌, ◌++◌, length, map, set, slice_index_or, nat_eq, All}
-use Rattle.std.specs.List.{sum, sum_by}
+use Rattle.std.specs.Prelude.{◌≡◌, ◌<◌, ◌^◌, ℕ, Bool, List, [], ◌∷◌, ◌++◌, length, map, set, slice_index_or, nat_eq, All}
+use Rattle.std.specs.List.{sum_by}
 use Rattle.std.specs.Cmp.Lexicographic.{pointwise}
 use Rattle.med_prelude.specs.Texts.{Bytes}
 use Rattle.tuple_core.specs.Encoding.{row_weight}

@@ -77,7 +77,8 @@ impl Bucket {
     }
 
     /// Puts a row behind the others. Where memory runs out, or at 2^32 - 1 rows or 2^32 bytes of a row with its key, the
-    /// bucket is as it was.
+    /// bucket is as it was. Room for what finds the row is made before its bytes are put, so that a row which is tried
+    /// again and again leaves no bytes.
     pub(crate) fn push(
         &mut self,
         alloc: Global,
@@ -94,8 +95,9 @@ impl Bucket {
         let Some(weight) = self.weight.checked_add(weight(row)) else {
             return Err(AllocError);
         };
-        let spot = self.pages.put_row(alloc, key, row)?;
         self.entries.reserve(1)?;
+        self.chains.reserve(alloc)?;
+        let spot = self.pages.put_row(alloc, key, row)?;
         self.chains.push(alloc, key_hash(key))?;
         self.weight = weight;
         match self.entries.push(Stored {

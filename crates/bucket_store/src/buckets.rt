@@ -13,6 +13,14 @@ use std::marker::Model;
 use std::mem;
 use tuple_core::{Row, bucket_of, weight};
 
+/// The most that all rows of a side weigh.
+pub const GREATEST_TOTAL: u64 = 1 << 60;
+
+/// The constant is the limit of the contracts.
+pub fn constant_is_the_limit()
+    ensures { GREATEST_TOTAL ≡ greatest_total }
+{}
+
 /// The rows of a side. Contracts see, for each bucket, the list of its rows with their keys and numbers.
 #[derive(Debug, Drop)]
 pub struct Buckets {
@@ -35,9 +43,6 @@ impl Model for Buckets {
 }
 
 impl Buckets {
-    /// The most that all rows of a side weigh.
-    pub const GREATEST_TOTAL: u64 = 1 << 60;
-
     /// So many buckets without rows.
     pub fn new(alloc: Global, count: u32) -> Result<Buckets, AllocError>
         requires { 0 < count }
@@ -65,7 +70,7 @@ impl Buckets {
 
     /// Puts a copy of a row behind the others of its key's bucket. Where memory runs out, nothing has changed. So it is
     /// too where the bucket has 2^32 - 1 rows, where a row with its key has 2^32 bytes, and where all rows together
-    /// would weigh more than [`Self::GREATEST_TOTAL`].
+    /// would weigh more than [`GREATEST_TOTAL`].
     pub fn insert(
         &mut self,
         alloc: Global,
@@ -78,7 +83,7 @@ impl Buckets {
         ensures err { OnErr result (self.new ≡ self.old) }
     {
         let weight = weight(row);
-        if weight > Self::GREATEST_TOTAL - self.total {
+        if weight > GREATEST_TOTAL - self.total {
             return Err(AllocError);
         }
         let bucket = bucket_of(key, self.count()) as usize;
@@ -125,11 +130,14 @@ impl Buckets {
         self.weights.as_slice()
     }
 
-    /// Hands the rows of a bucket on, and leaves it empty. It takes no memory.
+    /// Hands the rows of a bucket on, and leaves it empty. It takes no memory. They may be put back by `restore`.
     pub fn drain_bucket(&mut self, alloc: Global, bucket: u32) -> Bucket
         requires { bucket < length self.old }
         ensures rows { result ≡ rows_in self.old bucket }
         ensures left { self.new ≡ set self.old bucket [] }
+        ensures empty { rows_in self.new bucket ≡ [] }
+        ensures placed { BelongTo (length self.new) bucket result }
+        ensures light { sum (weights_of self.new) + rows_weight result ≤ greatest_total }
     {
         let bucket = bucket as usize;
         self.total -= self.weights[bucket];

@@ -164,6 +164,13 @@ impl Chains {
         next_of(self.slots.as_slice(), self.links.as_slice(), hash, from)
     }
 
+    /// Makes room for one hash more, so that the next push takes no memory.
+    pub(crate) fn reserve(&mut self, alloc: Global) -> Result<(), AllocError>
+        ensures { self.new ≡ self.old }
+    {
+        make_room(alloc, &mut self.slots, &mut self.links)
+    }
+
     /// Puts a hash at the end. Where memory runs out, or at 2^32 - 1 hashes, the list is as it was.
     pub(crate) fn push(&mut self, alloc: Global, hash: u32) -> Result<(), AllocError>
         ensures ok { OnOk result (self.new ≡ self.old ++ hash ∷ []) }

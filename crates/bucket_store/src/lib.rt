@@ -21,4 +21,4 @@ mod hashing;
 mod tests;
 
 pub use bucket::{Bucket, Stored};
-pub use buckets::Buckets;
+pub use buckets::{Buckets, GREATEST_TOTAL, constant_is_the_limit};

@@ -1,7 +1,7 @@
 //! What no clause says: that rows are kept at all, and how long the chains are.
 
-use crate::Buckets;
 use crate::hashing::key_hash;
+use crate::{Bucket, Buckets};
 use std::alloc::{AllocError, Global};
 use std::test::Fail;
 use tuple_core::{Kind, Row, Value, bucket_of, encode, parse_value, weight};
@@ -57,7 +57,8 @@ fn a_probe_finds_what_a_search_finds(rt: HostRuntime) -> Result<(), Fail> {
     Ok(())
 }
 
-/// The integer 1 has bucket 8 of 16. Drained, it is empty and weighs nothing; what is handed on are its rows.
+/// The integer 1 has bucket 8 of 16. Drained, it is empty and weighs nothing; what is handed on are its rows, and they
+/// may be put back.
 #[test]
 fn a_drained_bucket_is_handed_on(rt: HostRuntime) -> Result<(), Fail> {
     let alloc = rt.alloc();
@@ -86,6 +87,9 @@ fn a_drained_bucket_is_handed_on(rt: HostRuntime) -> Result<(), Fail> {
     assert_eq!(rt; drained.weight(), 10 * weight(&row));
     assert_eq!(rt; drained.entry(3).number(), 16);
     assert_eq!(rt; drained.row(3).to_row(alloc)?, row);
+    buckets.restore(8, drained);
+    assert_eq!(rt; buckets.probe(key.as_slice(), 4), Some(4));
+    assert_eq!(rt; buckets.weights().get(8).copied(), Some(10 * weight(&row)));
     Ok(())
 }
 
@@ -112,6 +116,25 @@ fn keys_of_one_hash_are_kept_apart(rt: HostRuntime) -> Result<(), Fail> {
     Ok(())
 }
 
+/// One bucket of 100,000 keys, and one of as many rows of one key: each place is found at once.
+#[test]
+fn a_probe_does_not_search(rt: HostRuntime) -> Result<(), Fail> {
+    let alloc = rt.alloc();
+    let mut keys = Buckets::new(alloc, 1)?;
+    let mut rows = Buckets::new(alloc, 1)?;
+    for number in 0..100_000u32 {
+        put(alloc, &mut keys, i64::from(number), u64::from(number))?;
+        put(alloc, &mut rows, 7, u64::from(number))?;
+    }
+    let seven = key_of(alloc, &row_of_number(alloc, 7)?)?;
+    for number in 0..100_000u32 {
+        let key = key_of(alloc, &row_of_number(alloc, i64::from(number))?)?;
+        assert_eq!(rt; keys.probe(key.as_slice(), 0), Some(number));
+        assert_eq!(rt; rows.probe(seven.as_slice(), number), Some(number));
+    }
+    Ok(())
+}
+
 /// All integers below 100,000 as keys: no chain of a bucket is long.
 #[test]
 fn chains_stay_short(rt: HostRuntime) -> Result<(), Fail> {
@@ -121,6 +144,15 @@ fn chains_stay_short(rt: HostRuntime) -> Result<(), Fail> {
         put(alloc, &mut buckets, i64::from(number), u64::from(number))?;
     }
     let longest = buckets.longest_chain(alloc)?;
-    assert!(rt; longest <= 12, "{longest}");
+    assert!(rt; longest >= 1 && longest <= 12, "{longest}");
     Ok(())
+}
+
+fn may_be_sent<T: Send>() {}
+
+/// Buckets, and one that was drained, may be handed to another thread.
+#[test]
+fn buckets_are_sent(_rt: HostRuntime) {
+    may_be_sent::<Buckets>();
+    may_be_sent::<Bucket>();
 }

@@ -1,4 +1,4 @@
-use Rattle.std.proofs.Common.{◌≡◌, ◌+◌, ◌%◌, ◌++◌, [], ◌∷◌, length, get_or, set, map, Some, None, refl, sym, ap, subst, ◌∙◌, arith}
+use Rattle.std.proofs.Common.{◌%◌, ◌++◌, [], ◌∷◌, map, Some, None, refl, sym, ap, ◌∙◌, arith}
 use Rattle.std.proofs.lemmas.List.{get_or_default, map-append}
 use Rattle.bucket_store.proofs.Chaining.{appended_after, appended_first, appended_hashes, last_inside}
 use Rattle.bucket_store.proofs.chains.append.Goals as goal

@@ -1,4 +1,4 @@
-use Rattle.std.proofs.Common.{◌≡◌, ◌<◌, Some, None, length, get_or, inl, inr, subst, sym, arith}
+use Rattle.std.proofs.Common.{◌<◌, None, length, get_or, inl, inr, subst, sym, arith}
 use Rattle.bucket_store.specs.Chained.{IsOnWay, hashes_of}
 use Rattle.bucket_store.proofs.Walking.{walk_ends, walk_finds, walk_inside, walk_left, walk_on, walk_smaller}
 use Rattle.bucket_store.proofs.chains.next_of.Goals as goal

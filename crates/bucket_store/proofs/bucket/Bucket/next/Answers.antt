@@ -1,8 +1,7 @@
-use Rattle.std.proofs.Common.{◌≡◌, ◌<◌, ◌≤◌, Some, None, length, map, refl, sym, ap, subst, ◌∙◌, arith}
+use Rattle.std.proofs.Common.{map, refl, sym, ap, ◌∙◌, arith}
 use Rattle.std.specs.Cmp.Lexicographic.{bytes_decides}
 use Rattle.std.proofs.lemmas.Bool.{false≢true}
 use Rattle.bucket_store.specs.Keys.{key_hash}
-use Rattle.bucket_store.specs.Places.{next_place}
 use Rattle.bucket_store.proofs.Probing.{probe_ends, probe_finds, probe_inside, probe_passes}
 use Rattle.bucket_store.proofs.bucket.Bucket.next.Goals as goal
 

@@ -1,4 +1,4 @@
-use Rattle.std.proofs.Common.{◌≡◌, ◌<◌, ◌≤◌, length, refl, sym, ap, subst, ◌∙◌, arith}
+use Rattle.std.proofs.Common.{◌<◌, ap, subst, ◌∙◌, arith}
 use Rattle.bucket_store.proofs.Keeping.{kept_more}
 use Rattle.tuple_core.specs.Hashing.{bucket_of}
 use Rattle.bucket_store.proofs.buckets.Buckets.insert.Goals as goal

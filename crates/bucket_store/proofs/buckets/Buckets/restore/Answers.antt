@@ -1,4 +1,4 @@
-use Rattle.std.proofs.Common.{◌≡◌, ◌<◌, length, sym, ap, subst, ◌∙◌, arith}
+use Rattle.std.proofs.Common.{◌≡◌, ◌<◌, length, sym, subst, ◌∙◌}
 use Rattle.bucket_store.proofs.Keeping.{kept_with}
 use Rattle.bucket_store.specs.Stored.{AreKept}
 use Rattle.std.proofs.Common.{[], set, ◌+◌, ◌≤◌}
