@@ -1,27 +1,28 @@
 -- A row comes to a join whose rows are all in memory.
-use Rattle.std.proofs.Common.{◌≡◌, ◌<◌, ◌≤◌, ◌+◌, ◌++◌, ◌&&◌, not, ℕ, zero, suc, Bool, true, false, List, [], ◌∷◌, length, get_or, set, map, All, Option, Some, None, refl, sym, ap, ap₂, subst, ◌∙◌, arith, append-nil}
-use Rattle.std.specs.List.{AllByRecursion}
+use Rattle.std.proofs.Common.{◌≡◌, ◌<◌, ◌+◌, ◌++◌, ◌&&◌, not, ℕ, zero, suc, Bool, true, false, List, [], ◌∷◌, length, get_or, set, map, All, Option, Some, None, refl, sym, ap, ap₂, subst, ◌∙◌, arith, append-nil}
 use Rattle.std.proofs.lemmas.List.{length-map, length-set, map-append, map-set}
 use Rattle.std.proofs.lemmas.List.Elements.{All-from_recursion}
 use Rattle.answer_theory.specs.Bags.{SameBag}
 use Rattle.answer_theory.specs.Pairs.{AlikeOn, pairs}
 use Rattle.answer_theory.proofs.Bags.{bag_from_same, bag_map, bag_refl, bag_trans}
 use Rattle.answer_theory.proofs.Pairs.{bag_pairs, pairs_alike, pairs_append_left, pairs_append_right}
+use Rattle.med_prelude.specs.Texts.{Bytes}
 use Rattle.tuple_core.specs.Encoding.{row_encoding}
 use Rattle.tuple_core.specs.Hashing.{bucket_of}
-use Rattle.tuple_core.specs.Values.{RowList, RowValues}
+use Rattle.tuple_core.specs.Values.{RowValues}
 use Rattle.row_match.specs.Shapes.{Shape, key_row}
 use Rattle.row_match.specs.declared.shape.Side.{Side}
 use Rattle.row_match.specs.declared.shape.Side.TheVariants as side
 use Rattle.bucket_store.specs.Held.{Held, HeldList, rows_in, with_row}
-use Rattle.join_core.specs.Given.{given_rows, glued, is_given, is_match, is_pending_in, pairs_given, pends, pends_on}
-use Rattle.join_core.specs.Kept.{IsHeld}
+use Rattle.join_core.specs.Given.{given_rows, glued, is_given, is_match, is_pending_in, pairs_given, pends}
+use Rattle.join_core.specs.Kept.{IsHeld, IsJoin}
 use Rattle.join_core.specs.Sides.{TwoSides, buckets_on, joining_of, probing_of, with_buckets}
-use Rattle.join_core.specs.State.{Joining, Pile, Probing, arrived, cursor_start, open_pile, pile_at, rows_of, stored_rows, with_held}
+use Rattle.join_core.specs.State.{Joining, Pile, Probing, arrived, cursor_start, open_pile, pile_at, rows_of, with_held}
 use Rattle.join_core.specs.Steps.{JoinStep, on_side}
 use Rattle.join_core.specs.declared.probe.Probe.{Probe}
 use Rattle.join_core.proofs.Flat.{all_in, each_in, more_in, rows_open}
 use Rattle.join_core.proofs.Pointwise.{new_pends, old_rests}
+use Rattle.join_core.proofs.Keeping.{bucket_inside}
 use Rattle.join_core.proofs.Stepping.{and_turned, given_is, no_pairs}
 
 -- ---- the state afterwards
@@ -90,20 +91,18 @@ module _ (shape : Shape) (sides : TwoSides) (left_ended right_ended : Bool) (nex
   abbrev came : Joining
   came = joining_of shape sides left_ended right_ended next None
 
-  left_step : probing_of after ≡ begun side.Left (length sides.left) (kept_as side.Left shape row next)
+  abbrev came_left : Joining
+  came_left = joining_of shape (record sides { left = with_row sides.left (kept_as side.Left shape row next) }) left_ended right_ended (next + 1) (Some after)
+
+  left_pairs : probing_of after ≡ begun side.Left (length sides.left) (kept_as side.Left shape row next)
       → bucket_of (length sides.left) (kept_as side.Left shape row next).key < length sides.left → Earlier side.Left shape next sides.left
-      → JoinStep came (joining_of shape (record sides { left = with_row sides.left (kept_as side.Left shape row next) }) left_ended right_ended (next + 1) (Some after)) (row ∷ []) [] []
-  left_step is inside early = record {
-    shape = refl;
-    left = stored_more sides.left held inside;
-    right = bag_from_same (sym (append-nil _));
-    given = no_more came t refl (
-        bag_trans (bag_from_same (ap₂ (pairs (is_given t)) (rows_open (with_row sides.left held)) (rows_open sides.right)))
-        (bag_trans (bag_pairs (is_given t) (more_in sides.left bucket held inside) (bag_refl (all_in sides.right)))
-        (bag_from_same (pairs_append_left (is_given t) (all_in sides.left) (held ∷ []) (all_in sides.right)
-        ∙ (ap₂ (λ xs ys. xs ++ ys) (pairs_alike (is_given t) (is_given came) (all_in sides.left) (all_in sides.right) old) (pairs_alike (is_given t) (λ l r. false) (held ∷ []) (all_in sides.right) new ∙ no_pairs (held ∷ []) (all_in sides.right))
-        ∙ (append-nil _ ∙ sym (ap₂ (pairs (is_given came)) (rows_open sides.left) (rows_open sides.right))))))));
-  }
+      → SameBag (pairs_given came_left) (pairs_given came)
+  left_pairs is inside early =
+      bag_trans (bag_from_same (ap₂ (pairs (is_given t)) (rows_open (with_row sides.left held)) (rows_open sides.right)))
+      (bag_trans (bag_pairs (is_given t) (more_in sides.left bucket held inside) (bag_refl (all_in sides.right)))
+      (bag_from_same (pairs_append_left (is_given t) (all_in sides.left) (held ∷ []) (all_in sides.right)
+      ∙ (ap₂ (λ xs ys. xs ++ ys) (pairs_alike (is_given t) (is_given came) (all_in sides.left) (all_in sides.right) old) (pairs_alike (is_given t) (λ l r. false) (held ∷ []) (all_in sides.right) new ∙ no_pairs (held ∷ []) (all_in sides.right))
+      ∙ (append-nil _ ∙ sym (ap₂ (pairs (is_given came)) (rows_open sides.left) (rows_open sides.right)))))))
     where
       held : Held
       held = kept_as side.Left shape row next
@@ -115,7 +114,7 @@ module _ (shape : Shape) (sides : TwoSides) (left_ended right_ended : Bool) (nex
       q = begun side.Left (length sides.left) held
 
       t : Joining
-      t = joining_of shape (record sides { left = with_row sides.left held }) left_ended right_ended (next + 1) (Some after)
+      t = came_left
 
       test : (l r : Held) → is_given t l r ≡ (is_match l r && not (pends (length sides.left) q l r))
       test l r =
@@ -140,20 +139,18 @@ module _ (shape : Shape) (sides : TwoSides) (left_ended right_ended : Bool) (nex
               test held r ∙ new_waits (is_match held r) (pends (length sides.left) q held r) (new_pends (length sides.left) held r q refl refl refl)
           first (suc k) d i = absurd (omega arith)
 
-  right_step : probing_of after ≡ begun side.Right (length sides.right) (kept_as side.Right shape row next)
+  abbrev came_right : Joining
+  came_right = joining_of shape (record sides { right = with_row sides.right (kept_as side.Right shape row next) }) left_ended right_ended (next + 1) (Some after)
+
+  right_pairs : probing_of after ≡ begun side.Right (length sides.right) (kept_as side.Right shape row next)
       → bucket_of (length sides.right) (kept_as side.Right shape row next).key < length sides.right → Earlier side.Right shape next sides.right → length sides.left ≡ length sides.right
-      → JoinStep came (joining_of shape (record sides { right = with_row sides.right (kept_as side.Right shape row next) }) left_ended right_ended (next + 1) (Some after)) [] (row ∷ []) []
-  right_step is inside early many = record {
-    shape = refl;
-    left = bag_from_same (sym (append-nil _));
-    right = stored_more sides.right held inside;
-    given = no_more came t refl (
-        bag_trans (bag_from_same (ap₂ (pairs (is_given t)) (rows_open sides.left) (rows_open (with_row sides.right held))))
-        (bag_trans (bag_pairs (is_given t) (bag_refl (all_in sides.left)) (more_in sides.right bucket held inside))
-        (bag_trans (pairs_append_right (is_given t) (all_in sides.left) (all_in sides.right) (held ∷ []))
-        (bag_from_same (ap₂ (λ xs ys. xs ++ ys) (pairs_alike (is_given t) (is_given came) (all_in sides.left) (all_in sides.right) old) (pairs_alike (is_given t) (λ l r. false) (all_in sides.left) (held ∷ []) new ∙ no_pairs (all_in sides.left) (held ∷ []))
-        ∙ (append-nil _ ∙ sym (ap₂ (pairs (is_given came)) (rows_open sides.left) (rows_open sides.right))))))));
-  }
+      → SameBag (pairs_given came_right) (pairs_given came)
+  right_pairs is inside early many =
+      bag_trans (bag_from_same (ap₂ (pairs (is_given t)) (rows_open sides.left) (rows_open (with_row sides.right held))))
+      (bag_trans (bag_pairs (is_given t) (bag_refl (all_in sides.left)) (more_in sides.right bucket held inside))
+      (bag_trans (pairs_append_right (is_given t) (all_in sides.left) (all_in sides.right) (held ∷ []))
+      (bag_from_same (ap₂ (λ xs ys. xs ++ ys) (pairs_alike (is_given t) (is_given came) (all_in sides.left) (all_in sides.right) old) (pairs_alike (is_given t) (λ l r. false) (all_in sides.left) (held ∷ []) new ∙ no_pairs (all_in sides.left) (held ∷ []))
+      ∙ (append-nil _ ∙ sym (ap₂ (pairs (is_given came)) (rows_open sides.left) (rows_open sides.right)))))))
     where
       held : Held
       held = kept_as side.Right shape row next
@@ -165,7 +162,7 @@ module _ (shape : Shape) (sides : TwoSides) (left_ended right_ended : Bool) (nex
       q = begun side.Right (length sides.right) held
 
       t : Joining
-      t = joining_of shape (record sides { right = with_row sides.right held }) left_ended right_ended (next + 1) (Some after)
+      t = came_right
 
       test : (l r : Held) → is_given t l r ≡ (is_match l r && not (pends (length sides.left) q r l))
       test l r =
@@ -192,12 +189,71 @@ module _ (shape : Shape) (sides : TwoSides) (left_ended right_ended : Bool) (nex
                   test l held ∙ new_waits (is_match l held) (pends (length sides.left) q held l) (new_pends (length sides.left) held l q (ap (λ n. bucket_of n held.key) (sym many)) refl refl)
               only_one (suc j) e o = absurd (omega arith)
 
--- on either side
-pub arrive_step : (sd : Side) (shape : Shape) (sides : TwoSides) (left_ended right_ended : Bool) (next : ℕ) (row : RowValues) (after : Probe)
-    → probing_of after ≡ begun sd (length (buckets_on sd sides)) (kept_as sd shape row next)
-    → bucket_of (length (buckets_on sd sides)) (kept_as sd shape row next).key < length (buckets_on sd sides) → Earlier sd shape next (buckets_on sd sides) → length sides.left ≡ length sides.right
-    → JoinStep (joining_of shape sides left_ended right_ended next None)
-    (joining_of shape (with_buckets sd sides (with_row (buckets_on sd sides) (kept_as sd shape row next))) left_ended right_ended (next + 1) (Some after))
-    (on_side sd side.Left (row ∷ [])) (on_side sd side.Right (row ∷ [])) []
-arrive_step side.Left shape sides left_ended right_ended next row after is inside early many = left_step shape sides left_ended right_ended next row after is inside early
-arrive_step side.Right shape sides left_ended right_ended next row after is inside early many = right_step shape sides left_ended right_ended next row after is inside early many
+-- what an arrival keeps
+pub record Keeps (sd : Side) (s t : Joining) (row : RowValues) : Type 0 where
+  pub step : JoinStep s t (on_side sd side.Left (row ∷ [])) (on_side sd side.Right (row ∷ [])) []
+  pub same_pairs : SameBag (pairs_given t) (pairs_given s)
+
+abbrev probe_begins : Side → TwoSides → Held → Probe
+probe_begins sd sides held = record { side = sd; row = held.row; number = held.number; bucket = bucket_of (length (buckets_on sd sides)) held.key; place = 0; from = 0 }
+
+arrival_keeps : (sd : Side) (shape : Shape) (sides : TwoSides) (left_ended right_ended : Bool) (next : ℕ) (key : Bytes) (row : RowValues) → IsJoin shape sides next key None
+    → Keeps sd (joining_of shape sides left_ended right_ended next None)
+    (joining_of shape (with_buckets sd sides (with_row (buckets_on sd sides) (kept_as sd shape row next))) left_ended right_ended (next + 1) (Some (probe_begins sd sides (kept_as sd shape row next)))) row
+arrival_keeps side.Left shape sides left_ended right_ended next key row h = record {
+  step = record {
+    shape = refl;
+    left = stored_more sides.left held inside;
+    right = bag_from_same (sym (append-nil _));
+    given = no_more s (came_left shape sides left_ended right_ended next row after) refl same;
+  };
+  same_pairs = same;
+}
+  where
+    held : Held
+    held = kept_as side.Left shape row next
+
+    after : Probe
+    after = probe_begins side.Left sides held
+
+    s : Joining
+    s = joining_of shape sides left_ended right_ended next None
+
+    inside : bucket_of (length sides.left) held.key < length sides.left
+    inside = bucket_inside sides.left held.key h.left.placed
+
+    same : SameBag (pairs_given (came_left shape sides left_ended right_ended next row after)) (pairs_given s)
+    same = left_pairs shape sides left_ended right_ended next row after refl inside h.left.each
+arrival_keeps side.Right shape sides left_ended right_ended next key row h = record {
+  step = record {
+    shape = refl;
+    left = bag_from_same (sym (append-nil _));
+    right = stored_more sides.right held inside;
+    given = no_more s (came_right shape sides left_ended right_ended next row after) refl same;
+  };
+  same_pairs = same;
+}
+  where
+    held : Held
+    held = kept_as side.Right shape row next
+
+    after : Probe
+    after = probe_begins side.Right sides held
+
+    s : Joining
+    s = joining_of shape sides left_ended right_ended next None
+
+    inside : bucket_of (length sides.right) held.key < length sides.right
+    inside = bucket_inside sides.right held.key h.right.placed
+
+    same : SameBag (pairs_given (came_right shape sides left_ended right_ended next row after)) (pairs_given s)
+    same = right_pairs shape sides left_ended right_ended next row after refl inside h.right.each h.many
+
+-- the state after an arrival, from that before
+pub arrived_keeps : (sd : Side) (shape : Shape) (sides : TwoSides) (left_ended right_ended : Bool) (next : ℕ) (key : Bytes) (probe : Option Probe) (s : Joining) (row : RowValues)
+    → IsJoin shape sides next key probe → joining_of shape sides left_ended right_ended next probe ≡ s → s.probe ≡ None → Keeps sd s (arrived sd s row) row
+arrived_keeps sd shape sides left_ended right_ended next key (Some p) s row h is idle = absurd (let no : Some (probing_of p) ≡ None = ap (λ (j : Joining). j.probe) is ∙ idle in cc)
+arrived_keeps sd shape sides left_ended right_ended next key None s row h is idle =
+    subst (λ j. Keeps sd j (arrived sd j row) row) is
+    (subst (λ t. Keeps sd (joining_of shape sides left_ended right_ended next None) t row) (arrived_is sd shape sides left_ended right_ended next row (probe_begins sd sides (kept_as sd shape row next)) refl)
+    (arrival_keeps sd shape sides left_ended right_ended next key row h))

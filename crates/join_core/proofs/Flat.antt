@@ -1,13 +1,13 @@
 -- All rows of a side, bucket after bucket.
-use Rattle.std.proofs.Common.{◌≡◌, ◌<◌, ◌≤◌, ◌+◌, ◌==◌, ◌++◌, ◌&&◌, ℕ, zero, suc, Bool, true, false, List, [], ◌∷◌, length, get_or, set, map, flat_map, filter, All, inl, inr, refl, sym, ap, ap₂, subst, ◌∙◌, arith, append-nil, append_assoc}
-use Rattle.std.specs.List.{AllByRecursion, AllPairs}
+use Rattle.std.proofs.Common.{◌≡◌, ◌<◌, ◌==◌, ◌++◌, ℕ, zero, suc, Bool, true, false, List, [], ◌∷◌, length, get_or, set, map, flat_map, filter, All, inl, inr, refl, sym, ap, ap₂, ◌∙◌, arith, append-nil, append_assoc}
+use Rattle.std.specs.List.{AllByRecursion}
 use Rattle.std.specs.Cmp.Lexicographic.{bytes_decides}
-use Rattle.std.proofs.lemmas.Bool.{and_left, and_parts, cases_order, cases_eq, eq-eqb, eqb-true, false≢true, ne_eqb, true≢false}
+use Rattle.std.proofs.lemmas.Bool.{and_parts, cases_order, eq-eqb, eqb-true}
 use Rattle.std.proofs.lemmas.List.{get_or_default}
 use Rattle.std.proofs.lemmas.List.Elements.{All-from_recursion, recursion_from_All}
 use Rattle.answer_theory.specs.Bags.{SameBag}
 use Rattle.answer_theory.specs.Pairs.{AlikeOn}
-use Rattle.answer_theory.proofs.Bags.{bag_append, bag_append_comm, bag_from_same, bag_middle, bag_refl, bag_sym, bag_trans, bag_push}
+use Rattle.answer_theory.proofs.Bags.{bag_append, bag_from_same, bag_middle, bag_refl, bag_sym, bag_trans, bag_push}
 use Rattle.answer_theory.proofs.Lists.{each_append, filter_append, flat_map_map}
 use Rattle.med_prelude.specs.Texts.{Bytes}
 use Rattle.tuple_core.specs.Hashing.{bucket_of}

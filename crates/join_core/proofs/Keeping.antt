@@ -1,9 +1,7 @@
 -- What a join keeps of its rows is kept.
-use Rattle.std.proofs.Common.{◌≡◌, ◌<◌, ◌≤◌, ◌+◌, ◌%◌, ◌++◌, ℕ, zero, suc, List, [], ◌∷◌, length, get_or, set, All, Option, Some, None, option_map, inl, inr, refl, sym, ap, subst, ◌∙◌, arith}
-use Rattle.std.specs.List.{AllPairs}
-use Rattle.std.specs.Option.{MatchOption}
+use Rattle.std.proofs.Common.{◌≡◌, ◌<◌, ◌+◌, ◌++◌, ℕ, List, [], ◌∷◌, length, get_or, set, All, Option, Some, None, option_map, inl, inr, refl, sym, ap, subst, ◌∙◌, arith}
 use Rattle.std.proofs.lemmas.Nat.{mod_below}
-use Rattle.std.proofs.lemmas.Bool.{cases_eq, cases_lt, cases_order}
+use Rattle.std.proofs.lemmas.Bool.{cases_eq, cases_order}
 use Rattle.std.proofs.lemmas.List.{get_or_default, get_or-set_other, get_or-set_same, length-set}
 use Rattle.std.proofs.lemmas.List.Elements.{All-push}
 use Rattle.std.proofs.lemmas.List.Quantifiers.{all_pairs_push}
@@ -14,9 +12,7 @@ use Rattle.tuple_core.specs.Values.{FitsRow, RowValues}
 use Rattle.row_match.specs.Shapes.{Shape, key_row, vars_of}
 use Rattle.row_match.specs.declared.shape.Side.{Side}
 use Rattle.row_match.specs.declared.shape.Side.TheVariants as side
-use Rattle.bucket_store.specs.Held.{ArePlaced, Held, HeldList, has_key, rows_in, with_row}
-use Rattle.bucket_store.specs.Places.{next_place}
-use Rattle.bucket_store.proofs.Places.{is_next}
+use Rattle.bucket_store.specs.Held.{ArePlaced, Held, HeldList, rows_in, with_row}
 use Rattle.bucket_store.proofs.Keeping.{belong_more, placed_set}
 use Rattle.join_core.specs.Kept.{AreRising, IsHeld, IsJoin, IsProbing, IsSide, facing_rows}
 use Rattle.join_core.specs.Sides.{TwoSides, buckets_on, opposite, probing_of, with_buckets}

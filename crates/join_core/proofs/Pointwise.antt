@@ -1,6 +1,6 @@
 -- What a step of a join does to one pair of rows.
 use Rattle.std.proofs.Common.{◌≡◌, ◌<◌, ◌≤◌, ◌+◌, ◌==◌, ◌++◌, ◌&&◌, ◌||◌, not, nat_le, ℕ, Bool, true, false, List, [], ◌∷◌, length, get_or, filter, Some, None, inl, inr, refl, sym, ap, subst, ◌∙◌, arith}
-use Rattle.std.proofs.lemmas.Bool.{and_parts, cases_lt, cases_order, eq-eqb, eqb-true, false≢true, le-leb, leb-true, lt-leb, ne_eqb}
+use Rattle.std.proofs.lemmas.Bool.{and_parts, cases_lt, cases_order, eq-eqb, eqb-true, false≢true, le-leb, leb-true, lt-leb}
 use Rattle.std.proofs.lemmas.List.{get_or_default, get_or_push, length_push}
 use Rattle.tuple_core.specs.Hashing.{bucket_of}
 use Rattle.bucket_store.specs.Held.{ArePlaced, Held, HeldList, has_key, rows_in, same_key}
@@ -10,7 +10,7 @@ use Rattle.join_core.specs.Given.{pends}
 use Rattle.join_core.specs.Kept.{AreRising}
 use Rattle.join_core.specs.State.{Probing}
 use Rattle.join_core.specs.Steps.{is_row}
-use Rattle.join_core.proofs.Flat.{bool_from, is_no_row, is_row_itself, all_in, keys_differ, keys_same, keys_turned, one_place, row_once, same_keys}
+use Rattle.join_core.proofs.Flat.{bool_from, is_no_row, is_row_itself, all_in, keys_same, keys_turned, one_place, row_once, same_keys}
 
 -- the probe's row lies last in its bucket, and faces the other side's rows from a place on
 pub record Faces (mine theirs : List HeldList) (p : Probing) (own : Held) (place : ℕ) : Type 0 where

@@ -1,33 +1,29 @@
 -- The steps of a join whose rows are all in memory.
-use Rattle.std.proofs.Common.{◌≡◌, ◌<◌, ◌≤◌, ◌+◌, ◌-◌, ◌==◌, ◌++◌, ◌&&◌, ◌||◌, not, cond, nat_lt, nat_le, ℕ, zero, suc, Bool, true, false, List, [], ◌∷◌, length, get_or, set, map, max, flat_map, filter, drop, All, Option, Some, None, option_map, inl, inr, refl, sym, ap, ap₂, subst, ◌∙◌, arith, append-nil, append_assoc}
-use Rattle.std.specs.List.{AllByRecursion, list_all}
-use Rattle.std.proofs.lemmas.Bool.{and_parts, false≢true, le-leb, lt-leb}
-use Rattle.std.proofs.lemmas.List.{get_or-map, get_or_default, get_or_push, length-map, length-set, length_push, map-append, map-set}
-use Rattle.std.proofs.lemmas.List.Elements.{All-from_recursion}
+use Rattle.std.proofs.Common.{◌≡◌, ◌<◌, ◌≤◌, ◌+◌, ◌++◌, ◌&&◌, ◌||◌, not, cond, nat_lt, ℕ, zero, suc, Bool, true, false, List, [], ◌∷◌, length, get_or, map, max, flat_map, filter, All, Option, Some, None, option_map, refl, sym, ap, ap₂, subst, ◌∙◌, arith, append-nil, append_assoc}
+use Rattle.std.specs.List.{AllByRecursion}
+use Rattle.std.proofs.lemmas.Bool.{false≢true}
+use Rattle.std.proofs.lemmas.List.{length-map}
 use Rattle.answer_theory.specs.Bags.{SameBag}
 use Rattle.answer_theory.specs.Pairs.{AlikeOn, pairs}
 use Rattle.answer_theory.specs.Solutions.{only}
 use Rattle.answer_theory.proofs.Bags.{bag_append, bag_from_same, bag_map, bag_push, bag_refl, bag_sym, bag_trans}
-use Rattle.answer_theory.proofs.Lists.{each_then, flat_map_alike, flat_map_alike_in, flat_map_map, flat_map_none, map_flat_map}
-use Rattle.answer_theory.proofs.Pairs.{bag_pairs, pairs_alike, pairs_append_left, pairs_append_right, pairs_one_more}
-use Rattle.med_prelude.specs.Texts.{Bytes}
-use Rattle.tuple_core.specs.Encoding.{row_encoding}
+use Rattle.answer_theory.proofs.Lists.{flat_map_alike, flat_map_alike_in, flat_map_map, flat_map_none, map_flat_map}
+use Rattle.answer_theory.proofs.Pairs.{pairs_alike, pairs_one_more}
 use Rattle.tuple_core.specs.Hashing.{bucket_of}
 use Rattle.tuple_core.specs.Values.{RowList, RowValues}
-use Rattle.row_match.specs.Shapes.{Shape, key_row}
+use Rattle.row_match.specs.Shapes.{Shape}
 use Rattle.row_match.specs.declared.shape.Side.{Side}
 use Rattle.row_match.specs.declared.shape.Side.TheVariants as side
-use Rattle.bucket_store.specs.Held.{ArePlaced, Held, HeldList, has_key, rows_in, same_key, with_row}
+use Rattle.bucket_store.specs.Held.{Held, HeldList, has_key, rows_in, same_key}
 use Rattle.bucket_store.specs.Places.{next_place}
-use Rattle.bucket_store.proofs.Places.{is_next}
-use Rattle.join_core.specs.Given.{before, given_rows, glued, have_met, is_given, is_match, is_owed, is_passed, is_pending, is_pending_in, joined_rows, keys_meet, memory_until, pairs_given, pairs_pending, pends, pends_on}
-use Rattle.join_core.specs.Kept.{IsHeld, IsSide}
-use Rattle.join_core.specs.Sides.{TwoSides, buckets_on, joining_of, opposite, probing_of, with_buckets}
-use Rattle.join_core.specs.State.{Joining, Pile, Probing, arrived, held_next, open_pile, pile_at, piles_of, rows_of, stored_rows, with_held}
-use Rattle.join_core.specs.Steps.{Gives, GivesNothing, JoinStep, is_row, on_side}
+use Rattle.join_core.specs.Given.{before, given_rows, glued, have_met, is_given, is_match, is_owed, is_passed, is_pending, is_pending_in, joined_rows, keys_meet, memory_until, pairs_given, pends, pends_on}
+use Rattle.join_core.specs.Kept.{IsHeld}
+use Rattle.join_core.specs.Sides.{TwoSides, buckets_on, joining_of, opposite, probing_of}
+use Rattle.join_core.specs.State.{Joining, Probing, open_pile, pile_at, rows_of, stored_rows}
+use Rattle.join_core.specs.Steps.{GivesMatch, GivesNothing, GivesPair, JoinStep, is_row}
 use Rattle.join_core.specs.declared.probe.Probe.{Probe}
-use Rattle.join_core.proofs.Flat.{all_in, alike_all, alike_from, alike_in, each_in, keys_turned, more_in, row_once, rows_open, same_keys}
-use Rattle.join_core.proofs.Pointwise.{Faces, new_pends, nothing_pends, old_rests, one_given, own_once, own_pends, pair_matches, pair_pends, partner_once}
+use Rattle.join_core.proofs.Flat.{all_in, alike_all, alike_from, alike_in, each_in, keys_turned, rows_open}
+use Rattle.join_core.proofs.Pointwise.{Faces, nothing_pends, one_given, own_once, own_pends, pair_matches, pair_pends, partner_once}
 
 -- ---- steps follow one another
 
@@ -57,24 +53,33 @@ not_given true true e = absurd (false≢true e)
 not_given true false e = refl
 not_given false g e = absurd (false≢true e)
 
-pub one_row_more : (s t : Joining) (row : RowValues) → Gives s t row → SameBag (given_rows t) (row ∷ given_rows s)
-one_row_more s t row h =
-    subst (λ u. SameBag (map (λ p. glued u.shape p.0.row p.1.row) (pairs (is_given t) (rows_of u.left) (rows_of u.right))) (row ∷ given_rows s)) (sym h.same)
-    (subst (λ first. SameBag (map (λ p. glued s.shape p.0.row p.1.row) (pairs (is_given t) (rows_of s.left) (rows_of s.right))) (first ∷ given_rows s)) (sym h.glue)
-    (bag_map (λ p. glued s.shape p.0.row p.1.row) (pairs_one_more (is_given s) (is_given t) (is_row h.left) (is_row h.right) h.left h.right (rows_of s.left) (rows_of s.right)
-    h.left_once h.right_once (not_given (is_match h.left h.right) (is_given s h.left h.right) h.was_owed) h.one_more)))
+pub one_pair_more : (s t : Joining) (row : RowValues) (left right : Held) → GivesPair s t row left right → SameBag (pairs_given t) ((left, right) ∷ pairs_given s)
+one_pair_more s t row left right h =
+    subst (λ ls. SameBag (pairs (is_given t) (rows_of ls) (rows_of t.right)) ((left, right) ∷ pairs_given s)) (sym h.same_left)
+    (subst (λ rs. SameBag (pairs (is_given t) (rows_of s.left) (rows_of rs)) ((left, right) ∷ pairs_given s)) (sym h.same_right)
+    (pairs_one_more (is_given s) (is_given t) (is_row left) (is_row right) left right (rows_of s.left) (rows_of s.right)
+    h.left_once h.right_once (not_given (is_match left right) (is_given s left right) h.was_owed) h.one_more))
 
-pub gives_step : (s t : Joining) (row : RowValues) → Gives s t row → JoinStep s t [] [] (row ∷ [])
-gives_step s t row h = record {
-  shape = ap (λ u. u.shape) h.same;
-  left = bag_from_same (ap (λ u. stored_rows side.Left u) h.same ∙ sym (append-nil _));
-  right = bag_from_same (ap (λ u. stored_rows side.Right u) h.same ∙ sym (append-nil _));
-  given = bag_trans (one_row_more s t row h) (bag_sym (bag_push (given_rows s) row));
+pub one_row_more : (s t : Joining) (row : RowValues) (left right : Held) → GivesPair s t row left right → SameBag (given_rows t) (row ∷ given_rows s)
+one_row_more s t row left right h =
+    subst (λ shape. SameBag (map (λ p. glued shape p.0.row p.1.row) (pairs_given t)) (row ∷ given_rows s)) (sym h.same_shape)
+    (subst (λ first. SameBag (map (λ p. glued s.shape p.0.row p.1.row) (pairs_given t)) (first ∷ given_rows s)) (sym h.glue)
+    (bag_map (λ p. glued s.shape p.0.row p.1.row) (one_pair_more s t row left right h)))
+
+pub pair_step : (s t : Joining) (row : RowValues) (left right : Held) → GivesPair s t row left right → JoinStep s t [] [] (row ∷ [])
+pair_step s t row left right h = record {
+  shape = h.same_shape;
+  left = bag_from_same (ap (λ piles. map (λ h. h.row) (rows_of piles)) h.same_left ∙ sym (append-nil _));
+  right = bag_from_same (ap (λ piles. map (λ h. h.row) (rows_of piles)) h.same_right ∙ sym (append-nil _));
+  given = bag_trans (one_row_more s t row left right h) (bag_sym (bag_push (given_rows s) row));
 }
+
+pub gives_step : (s t : Joining) (row : RowValues) → GivesMatch s t row → JoinStep s t [] [] (row ∷ [])
+gives_step s t row h = pair_step s t row h.left h.right h.pair
 
 -- ---- all rows are in memory: what met is given, unless it pends
 
-closed_open : (buckets : List HeldList) (b : ℕ) → (pile_at (map open_pile buckets) b).closed ≡ None
+pub closed_open : (buckets : List HeldList) (b : ℕ) → (pile_at (map open_pile buckets) b).closed ≡ None
 closed_open [] b = refl
 closed_open (rows ∷ buckets) zero = refl
 closed_open (rows ∷ buckets) (suc b) = closed_open buckets b
@@ -146,12 +151,12 @@ module _ (shape : Shape) (sides : TwoSides) (left_ended right_ended : Bool) (nex
         → next_place (has_key own.key) (rows_in (buckets_on (opposite p.side) sides) p.bucket) place ≡ None
         → GivesNothing (state (Some p)) (state None) × JoinStep (state (Some p)) (state None) [] [] []
     nothing_given own place f many none = (
-      record { none = pairs_alike (λ l r. is_match l r && (have_met (state (Some p)) l r && is_pending (state (Some p)) l r)) (λ l r. false) (rows_of (map open_pile sides.left)) (rows_of (map open_pile sides.right)) (on_rows (λ l r. is_match l r && (have_met (state (Some p)) l r && is_pending (state (Some p)) l r)) (λ l r. false) pending) ∙ no_pairs (rows_of (map open_pile sides.left)) (rows_of (map open_pile sides.right)); ended = refl },
+      record { none = pairs_alike (λ l r. is_match l r && (have_met (state (Some p)) l r && is_pending (state (Some p)) l r)) (λ l r. false) (rows_of (map open_pile sides.left)) (rows_of (map open_pile sides.right)) (on_rows (λ l r. is_match l r && (have_met (state (Some p)) l r && is_pending (state (Some p)) l r)) (λ l r. false) pending) ∙ no_pairs (rows_of (map open_pile sides.left)) (rows_of (map open_pile sides.right)); ended = refl; same_given = same_pairs },
       record {
         shape = refl;
         left = bag_from_same (sym (append-nil _));
         right = bag_from_same (sym (append-nil _));
-        given = bag_from_same (ap (map (λ p. glued shape p.0.row p.1.row)) (pairs_alike (is_given (state None)) (is_given (state (Some p))) (rows_of (map open_pile sides.left)) (rows_of (map open_pile sides.right)) (on_rows (is_given (state None)) (is_given (state (Some p))) same_given)) ∙ sym (append-nil _));
+        given = bag_from_same (ap (map (λ p. glued shape p.0.row p.1.row)) same_pairs ∙ sym (append-nil _));
       },
     )
       where
@@ -166,6 +171,9 @@ module _ (shape : Shape) (sides : TwoSides) (left_ended right_ended : Bool) (nex
         same_given : AlikeOn (all_in sides.left) (all_in sides.right) (is_given (state None)) (is_given (state (Some p)))
         same_given = alike_from (all_in sides.left) (all_in sides.right) (λ l r. is_match l r && pends_on p.side (length sides.left) (probing_of p) l r) (λ l r. false) (is_given (state None)) (is_given (state (Some p))) left_over (λ l r h.
             given_is None l r ∙ (no_pending (is_match l r) (pends_on p.side (length sides.left) (probing_of p) l r) h ∙ sym (given_is (Some p) l r)))
+
+        same_pairs : pairs_given (state None) ≡ pairs_given (state (Some p))
+        same_pairs = pairs_alike (is_given (state None)) (is_given (state (Some p))) (rows_of (map open_pile sides.left)) (rows_of (map open_pile sides.right)) (on_rows (is_given (state None)) (is_given (state (Some p))) same_given)
 
   -- ---- a match is given
 
@@ -215,23 +223,12 @@ module _ (shape : Shape) (sides : TwoSides) (left_ended right_ended : Bool) (nex
       → next_place (has_key own.key) (rows_in (buckets_on (opposite p.side) sides) p.bucket) p.place ≡ Some at → get_or (rows_in (buckets_on (opposite p.side) sides) p.bucket) at partner ≡ partner
       → probing_of after ≡ record (probing_of p) { from = partner.number + 1 } → partner.number < next
       → row ≡ glued shape (left_of p.side own partner).row (right_of p.side own partner).row
-      → Gives (state (Some p)) (state (Some after)) row
+      → GivesMatch (state (Some p)) (state (Some after)) row
   row_given p after own partner at row f many found is moved less glue = record {
     left = l;
     right = r;
-    left_once = ap (filter (is_row l)) (rows_open sides.left) ∙ left_is_once p.side (probing_of p) own partner p.place at f found is;
-    right_once = ap (filter (is_row r)) (rows_open sides.right) ∙ right_is_once p.side (probing_of p) own partner p.place at f found is;
-    was_owed = owed;
+    pair = pair;
     was_pending = ap (λ n. is_pending_in (Some (probing_of p)) n l r) (length-map sides.left open_pile) ∙ pending;
-    glue = glue;
-    one_more = on_rows (is_given (state (Some after))) (λ x y. is_given (state (Some p)) x y || (is_row l x && is_row r y))
-        (alike_from (all_in sides.left) (all_in sides.right) (λ x y. is_match x y && not (pends_on p.side (length sides.left) (record (probing_of p) { from = partner.number + 1 }) x y))
-        (λ x y. (is_match x y && not (pends_on p.side (length sides.left) (probing_of p) x y)) || (is_row l x && is_row r y))
-        (is_given (state (Some after))) (λ x y. is_given (state (Some p)) x y || (is_row l x && is_row r y))
-        (row_alike p.side (probing_of p) own partner p.place at f many found is)
-        (λ x y h. given_is (Some after) x y
-        ∙ (ap (λ q. is_match x y && not (is_pending_in (Some q) (length sides.left) x y)) moved
-        ∙ (h ∙ ap (λ g. g || (is_row l x && is_row r y)) (sym (given_is (Some p) x y))))));
     same = refl;
     falls = let from = from_pends p.side (probing_of p) own partner p.place at f found is in omega (arith, from, less, ap (λ (q : Probing). q.from) moved);
   }
@@ -253,6 +250,25 @@ module _ (shape : Shape) (sides : TwoSides) (left_ended right_ended : Bool) (nex
 
       owed : is_owed (state (Some p)) l r ≡ true
       owed = ap (λ x. is_match l r && not x) given_not ∙ (and_turned (is_match l r) true ∙ matches)
+
+      pair : GivesPair (state (Some p)) (state (Some after)) row l r
+      pair = record {
+        left_once = ap (filter (is_row l)) (rows_open sides.left) ∙ left_is_once p.side (probing_of p) own partner p.place at f found is;
+        right_once = ap (filter (is_row r)) (rows_open sides.right) ∙ right_is_once p.side (probing_of p) own partner p.place at f found is;
+        was_owed = owed;
+        glue = glue;
+        one_more = on_rows (is_given (state (Some after))) (λ x y. is_given (state (Some p)) x y || (is_row l x && is_row r y))
+            (alike_from (all_in sides.left) (all_in sides.right) (λ x y. is_match x y && not (pends_on p.side (length sides.left) (record (probing_of p) { from = partner.number + 1 }) x y))
+            (λ x y. (is_match x y && not (pends_on p.side (length sides.left) (probing_of p) x y)) || (is_row l x && is_row r y))
+            (is_given (state (Some after))) (λ x y. is_given (state (Some p)) x y || (is_row l x && is_row r y))
+            (row_alike p.side (probing_of p) own partner p.place at f many found is)
+            (λ x y h. given_is (Some after) x y
+            ∙ (ap (λ q. is_match x y && not (is_pending_in (Some q) (length sides.left) x y)) moved
+            ∙ (h ∙ ap (λ g. g || (is_row l x && is_row r y)) (sym (given_is (Some p) x y))))));
+        same_shape = refl;
+        same_left = refl;
+        same_right = refl;
+      }
 
   -- ---- all is given
 
@@ -288,6 +304,7 @@ module _ (shape : Shape) (sides : TwoSides) (left_ended right_ended : Bool) (nex
     none = pairs_alike (λ l r. is_match l r && (have_met (state None) l r && false)) (λ l r. false) (rows_of (map open_pile sides.left)) (rows_of (map open_pile sides.right)) (alike_all (rows_of (map open_pile sides.left)) (rows_of (map open_pile sides.right)) (λ l r. is_match l r && (have_met (state None) l r && false)) (λ l r. false) (λ l r. none_of (is_match l r) (have_met (state None) l r)))
         ∙ no_pairs (rows_of (map open_pile sides.left)) (rows_of (map open_pile sides.right));
     ended = refl;
+    same_given = refl;
   }
     where
       none_of : (m h : Bool) → (m && (h && false)) ≡ false

@@ -1,5 +1,5 @@
 -- What a join knows when the next match is asked for.
-use Rattle.std.proofs.Common.{◌≡◌, ◌<◌, ◌≤◌, ◌+◌, ◌++◌, ℕ, Bool, List, [], ◌∷◌, length, get_or, Option, Some, None, option_map, refl, sym, ap, subst, ◌∙◌, arith}
+use Rattle.std.proofs.Common.{◌≡◌, ◌<◌, ◌+◌, ℕ, Bool, List, [], length, get_or, Option, Some, None, option_map, refl, sym, ap, subst, ◌∙◌, arith}
 use Rattle.std.proofs.lemmas.List.{get_or_default, get_or_push, length_push}
 use Rattle.med_prelude.specs.Texts.{Bytes}
 use Rattle.tuple_core.specs.Hashing.{bucket_of}
@@ -11,14 +11,13 @@ use Rattle.bucket_store.specs.Held.{Held, HeldList, has_key, no_row, rows_in}
 use Rattle.bucket_store.specs.Places.{next_place}
 use Rattle.bucket_store.proofs.Places.{is_next}
 use Rattle.join_core.specs.Given.{glued}
-use Rattle.join_core.specs.Kept.{AreRising, IsHeld, IsJoin, IsProbing, IsSide, facing_rows}
+use Rattle.join_core.specs.Kept.{IsHeld, IsJoin, IsProbing, IsSide, facing_rows}
 use Rattle.join_core.specs.Sides.{TwoSides, at_place, buckets_on, glued_on, joining_of, opposite, probing_of}
-use Rattle.join_core.specs.State.{Joining}
-use Rattle.join_core.specs.Steps.{Gives, GivesNothing, JoinStep}
+use Rattle.join_core.specs.Steps.{GivesMatch, GivesNothing, JoinStep}
 use Rattle.join_core.specs.declared.probe.Probe.{Probe}
 use Rattle.join_core.proofs.Keeping.{faces, facing_is, own_of, probing_on, side_on}
 use Rattle.join_core.proofs.Pointwise.{Faces}
-use Rattle.join_core.proofs.Stepping.{gives_step, left_of, nothing_given, right_of, row_given}
+use Rattle.join_core.proofs.Stepping.{left_of, nothing_given, right_of, row_given}
 
 -- what the search of the facing bucket is asked
 abbrev pub found_in : TwoSides → Bytes → Probe → Option ℕ
@@ -85,8 +84,8 @@ module _ (shape : Shape) (sides : TwoSides) (next : ℕ) (key : Bytes) (p : Prob
   pub gives_row : (left_ended right_ended : Bool) (after : Option Probe) (at : ℕ) (row : RowValues) → Some at ≡ found_in sides key p
       → after ≡ Some (record p { place = at + 1; from = (get_or (facing_rows sides p) at no_row).number + 1 })
       → row ≡ glued_on p.side shape p.row (get_or (facing_rows sides p) at no_row).row
-      → Gives (joining_of shape sides left_ended right_ended next (Some p)) (joining_of shape sides left_ended right_ended next after) row
-  gives_row left_ended right_ended after at row e is glue = subst (λ o. Gives (joining_of shape sides left_ended right_ended next (Some p)) (joining_of shape sides left_ended right_ended next o) row) (sym is)
+      → GivesMatch (joining_of shape sides left_ended right_ended next (Some p)) (joining_of shape sides left_ended right_ended next after) row
+  gives_row left_ended right_ended after at row e is glue = subst (λ o. GivesMatch (joining_of shape sides left_ended right_ended next (Some p)) (joining_of shape sides left_ended right_ended next o) row) (sym is)
       (row_given shape sides left_ended right_ended next p (record p { place = at + 1; from = (get_or (facing_rows sides p) at no_row).number + 1 }) (own_of key p) (get_or (facing_rows sides p) at no_row) at row
       face h.many (sym (e ∙ searched)) (same_partner at e) refl (partner_earlier at e) (glue ∙ turned p.side))
     where

@@ -1,5 +1,5 @@
 -- Which pairs a join has given, and which it owes: tests on two rows, in any state.
-use Rattle.std.specs.Prelude.{ℕ, ◌==◌, nat_lt, nat_le, max, Bool, true, false, not, cond, ◌&&◌, ◌||◌, List, [], ◌++◌, length, map, flat_map, slice_index_or, Option, Some, None, option_map}
+use Rattle.std.specs.Prelude.{ℕ, ◌==◌, nat_lt, nat_le, max, Bool, true, false, not, cond, ◌&&◌, ◌||◌, List, ◌++◌, length, map, flat_map, Option, Some, None, option_map}
 use Rattle.answer_theory.specs.Pairs.{pairs}
 use Rattle.answer_theory.specs.Rows.{lacked_values}
 use Rattle.answer_theory.specs.Solutions.{only}
@@ -10,7 +10,7 @@ use Rattle.row_match.specs.Shapes.{Shape, key_row}
 use Rattle.row_match.specs.declared.shape.Side.{Side}
 use Rattle.row_match.specs.declared.shape.Side.TheVariants as side
 use Rattle.bucket_store.specs.Held.{Held, same_key}
-use Rattle.join_core.specs.State.{Cursor, Joining, Pile, Probing, pile_at, rows_of}
+use Rattle.join_core.specs.State.{Cursor, Joining, Pile, Probing, is_open, pile_for, rows_of}
 
 -- the rows have equal keys
 abbrev pub is_match : Held → Held → Bool
@@ -18,7 +18,7 @@ is_match l r = same_key l.key r.key
 
 -- the number from which on a row isn't in memory; a row that comes into a closed bucket never is
 abbrev pub memory_until : List Pile → Held → Option ℕ
-memory_until piles h = option_map (max h.number) (pile_at piles (bucket_of (length piles) h.key)).closed
+memory_until piles h = option_map (max h.number) (pile_for piles h).closed
 
 abbrev pub before : ℕ → Option ℕ → Bool
 before n None = true
@@ -43,9 +43,9 @@ is_pending_in (Some p) count l r = pends_on p.side count p l r
 abbrev pub is_pending : Joining → Held → Held → Bool
 is_pending s l r = is_pending_in s.probe (length s.left) l r
 
--- the clean-up has passed the pair
+-- the clean-up has passed the pair of two rows of a bucket
 abbrev pub is_behind : ℕ → Cursor → Held → Held → Bool
-is_behind bucket c l r = nat_lt bucket c.bucket || ((bucket == c.bucket) && (nat_lt r.number c.right || ((r.number == c.right) && nat_lt l.number c.left)))
+is_behind bucket c l r = nat_lt bucket c.bucket || ((bucket == c.bucket) && (nat_lt l.number c.start || (nat_lt l.number c.stop && (nat_lt r.number c.right || ((r.number == c.right) && nat_lt l.number c.left)))))
 
 abbrev pub is_passed : Joining → Held → Held → Bool
 is_passed s l r = is_behind (bucket_of (length s.left) l.key) s.cursor l r
@@ -57,6 +57,10 @@ is_given s l r = is_match l r && cond (have_met s l r) (not (is_pending s l r)) 
 -- the pair is still to be given
 abbrev pub is_owed : Joining → Held → Held → Bool
 is_owed s l r = is_match l r && not (is_given s l r)
+
+-- the rows have one bucket, which was closed on a side, and the clean-up hasn't passed the pair
+abbrev pub is_left_over : Joining → Held → Held → Bool
+is_left_over s l r = (bucket_of (length s.left) l.key == bucket_of (length s.right) r.key) && (not (is_open (pile_for s.left l) && is_open (pile_for s.right r)) && not (is_passed s l r))
 
 abbrev pub pairs_that : (Held → Held → Bool) → Joining → List (Held × Held)
 pairs_that test s = pairs test (rows_of s.left) (rows_of s.right)
@@ -74,6 +78,10 @@ pairs_pending s = pairs_that (λ l r. is_match l r && (have_met s l r && is_pend
 -- the left values, and the right's values of variables that the left lacks
 abbrev pub glued : Shape → RowValues → RowValues → RowValues
 glued shape l r = l ++ lacked_values shape.left shape.right r
+
+-- the pairs that are left for the clean-up
+abbrev pub pairs_left_over : Joining → List (Held × Held)
+pairs_left_over s = pairs_that (is_left_over s) s
 
 -- the rows that the join has given
 abbrev pub given_rows : Joining → RowList

@@ -1,6 +1,5 @@
 -- What a join is, as contracts see it: plain data, which knows nothing of memory and pages.
-use Rattle.std.specs.Prelude.{ℕ, zero, suc, ◌+◌, ◌-◌, Bool, true, false, List, [], ◌∷◌, ◌++◌, length, map, set, flat_map, replicate, slice_index_or, Option, Some, None}
-use Rattle.med_prelude.specs.Texts.{Bytes}
+use Rattle.std.specs.Prelude.{ℕ, suc, ◌+◌, ◌-◌, Bool, true, false, List, [], ◌∷◌, ◌++◌, length, map, set, flat_map, replicate, slice_index_or, cond, Option, Some, None, is_none}
 use Rattle.tuple_core.specs.Encoding.{row_encoding}
 use Rattle.tuple_core.specs.Hashing.{bucket_of}
 use Rattle.tuple_core.specs.Values.{RowList, RowValues}
@@ -22,9 +21,12 @@ pub record Probing : Type 0 where
   pub bucket : ℕ
   pub from : ℕ
 
--- How far the clean-up has come: all pairs of the buckets before, and in this bucket those of a right row before, or with this right row and a left row before.
+-- How far the clean-up has come. It goes through the buckets, and in each through chunks of its left rows: those with the numbers from `start` up to `stop` are compared
+-- with the right rows one by one. It is behind the right rows with lesser numbers, and with this one behind the left rows of the chunk with lesser numbers.
 pub record Cursor : Type 0 where
   pub bucket : ℕ
+  pub start : ℕ
+  pub stop : ℕ
   pub right : ℕ
   pub left : ℕ
 
@@ -45,8 +47,12 @@ open_pile rows = record { rows = rows; closed = None }
 abbrev pub no_pile : Pile
 no_pile = open_pile []
 
+-- the bucket takes rows into memory, and all that it has are there
+abbrev pub is_open : Pile → Bool
+is_open pile = is_none pile.closed
+
 abbrev pub cursor_start : Cursor
-cursor_start = record { bucket = 0; right = 0; left = 0 }
+cursor_start = record { bucket = 0; start = 0; stop = 0; right = 0; left = 0 }
 
 -- a join to which nothing has come
 abbrev pub fresh_join : ℕ → Shape → Joining
@@ -84,9 +90,13 @@ held_next side s row = record { key = row_encoding (key_row side s.shape row); r
 abbrev pub pile_at : List Pile → ℕ → Pile
 pile_at piles bucket = slice_index_or piles bucket no_pile
 
+-- the bucket of a row
+abbrev pub pile_for : List Pile → Held → Pile
+pile_for piles held = pile_at piles (bucket_of (length piles) held.key)
+
 -- one row more in the bucket of its key
 abbrev pub with_held : List Pile → Held → List Pile
-with_held piles held = set piles (bucket_of (length piles) held.key) (record (pile_at piles (bucket_of (length piles) held.key)) { rows = (pile_at piles (bucket_of (length piles) held.key)).rows ++ held ∷ [] })
+with_held piles held = set piles (bucket_of (length piles) held.key) (record (pile_for piles held) { rows = (pile_for piles held).rows ++ held ∷ [] })
 
 -- the probe of a row that comes next: it is compared with all that the other side has in the bucket
 abbrev pub probe_of : Side → Joining → Held → Probing
@@ -110,6 +120,6 @@ probe_left_in (Some p) next = suc (next - p.from)
 abbrev pub probe_left : Joining → ℕ
 probe_left s = probe_left_in s.probe s.next
 
--- how much the rows of each bucket weigh
+-- how much the rows of each bucket weigh that are in memory
 abbrev pub pile_weights : List Pile → List ℕ
-pile_weights piles = map (λ p. rows_weight p.rows) piles
+pile_weights piles = map (λ p. cond (is_open p) (rows_weight p.rows) 0) piles

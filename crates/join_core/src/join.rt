@@ -6,7 +6,7 @@ ghost use Rattle.answer_theory.specs.Bags.{SameBag};
 ghost use Rattle.bucket_store.specs.Held.{greatest_total, no_row, rows_in};
 ghost use Rattle.row_match.specs.Shapes.{vars_of};
 ghost use Rattle.row_match.specs.declared.shape.Side.TheVariants as which;
-ghost use Rattle.join_core.specs.Given.{given_rows, joined_rows};
+ghost use Rattle.join_core.specs.Given.{given_rows, joined_rows, pairs_given, pairs_owed};
 ghost use Rattle.join_core.specs.Sides.{at_place, glued_on, opposite};
 ghost use Rattle.join_core.specs.State.{ended, fresh_join, has_ended, pile_weights, piles_of, stored_rows};
 ghost use Rattle.join_core.specs.Steps.{Arrives, GivesNext, JoinStep, came_in, gave_out, is_finished, on_side};
@@ -24,7 +24,8 @@ use tuple_core::{KeyRoom, Row, bucket_of};
 pub enum Arrive {
     /// It is kept, and is the probe.
     Taken,
-    /// Memory ran out, or the join has had 2^64 - 1 rows: nothing has changed, and the row is handed back.
+    /// Nothing has changed, and the row is handed back. Memory ran out, or the join has had 2^64 - 1 rows, the bucket has
+    /// 2^32 - 1, the row with its key takes 2^32 bytes, or all rows of the side would weigh more than 2^60 bytes.
     NoMemory(Row),
 }
 
@@ -87,7 +88,8 @@ impl Join {
         requires idle { self.old.probe ≡ None }
         requires wide { length row ≡ length (vars_of side self.old.shape) }
         ensures arrives { Arrives self.old self.new side row result }
-        ensures step { JoinStep self.old self.new (on_side side which.Left (came_in side row result)) (on_side side which.Right (came_in side row result)) [] }
+        ensures step { JoinStep self.old self.new (on_side side which.Left (came_in row result)) (on_side side which.Right (came_in row result)) [] }
+        ensures pairs { SameBag (pairs_given self.new) (pairs_given self.old) }
     {
         let Some(next) = self.next.checked_add(1) else {
             return Arrive::NoMemory(row);
@@ -132,7 +134,8 @@ impl Join {
 
     /// No row comes on this side any more.
     pub fn close(&mut self, side: Side)
-        ensures { self.new ≡ ended side self.old }
+        ensures ended { self.new ≡ ended side self.old }
+        ensures step { JoinStep self.old self.new [] [] [] }
     {
         match side {
             Side::Left => self.left_ended = true,
@@ -143,6 +146,7 @@ impl Join {
     /// Whether both sides have ended and all matches are given.
     pub fn finished(&self) -> bool
         ensures finished { result ≡ is_finished self.now }
+        ensures nothing_owed { result ≡ true → pairs_owed self.now ≡ [] }
         ensures all { result ≡ true → SameBag (given_rows self.now) (joined_rows self.now.shape (stored_rows which.Left self.now) (stored_rows which.Right self.now)) }
     {
         are_all(self.left_ended, self.right_ended, self.probe.is_none())

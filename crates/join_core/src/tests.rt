@@ -1,7 +1,8 @@
 //! What no clause says: that rows are taken and matches come, compared with answers by hand and with nested choice.
 
-ghost use Rattle.std.specs.Prelude.{◌≡◌, ◌<◌, length, None, IfOk, OnOk};
+ghost use Rattle.std.specs.Prelude.{◌≡◌, ◌<◌, ◌≤◌, length, None, IfOk, OnOk};
 ghost use Rattle.join_core.specs.Testing.{IsReady};
+ghost use Rattle.tuple_core.specs.Values.{FitsValue};
 
 use crate::{Arrive, Join, OutStep};
 use med_prelude::Listed;
@@ -11,32 +12,54 @@ use row_match::{JoinShape, Side, Vars};
 use row_pages::Rows;
 use std::alloc::Global;
 use std::test::Fail;
-use tuple_core::{Row, Value};
+use tuple_core::{Kind, Row, Value, parse_value};
+
+// Which variables the right rows have, beside left rows of x and y.
+#[derive(Clone, Copy)]
+enum Right {
+    // y and z
+    Linked,
+    // z and w, so that nothing is shared
+    Apart,
+    // y and x, so that all is shared
+    Turned,
+}
+
+// The integer, but for two numbers, which stand for two texts whose keys have one hash.
+fn value(alloc: Global, number: i64) -> Result<Value, Fail>
+    ensures { IfOk result FitsValue }
+{
+    let text = match number {
+        -1 => "mvooxhed",
+        -2 => "pcevaecc",
+        _ => return Ok(Value::Int(number)),
+    };
+    Ok(parse_value(alloc, Kind::Text, text.as_bytes())?.ok_or("no value")?)
+}
 
 fn pair(alloc: Global, first: i64, second: i64) -> Result<Row, Fail>
     ensures { IfOk result (λ row. length row ≡ 2) }
 {
-    Ok(Row::new(vec![in alloc; Value::Int(first), Value::Int(second)]?))
+    Ok(Row::new(vec![in alloc; value(alloc, first)?, value(alloc, second)?]?))
 }
 
-// A join of rows (x, y) and rows (y, z).
-fn linked(alloc: Global, buckets: u32) -> Result<Join, Fail>
+fn shape_of(alloc: Global, right: Right) -> Result<JoinShape, Fail>
+    ensures { IfOk result (λ shape. (length shape.left ≡ 2) × (length shape.right ≡ 2)) }
+{
+    let left = Vars::new(vec![in alloc; 0, 1]?);
+    let shape = match right {
+        Right::Linked => JoinShape::new(alloc, &left, &Vars::new(vec![in alloc; 1, 2]?))?,
+        Right::Apart => JoinShape::new(alloc, &left, &Vars::new(vec![in alloc; 2, 3]?))?,
+        Right::Turned => JoinShape::new(alloc, &left, &Vars::new(vec![in alloc; 1, 0]?))?,
+    };
+    Ok(shape)
+}
+
+fn join_of(alloc: Global, right: Right, buckets: u32) -> Result<Join, Fail>
     requires { 0 < buckets }
     ensures { IfOk result IsReady }
 {
-    let left = Vars::new(vec![in alloc; 0, 1]?);
-    let right = Vars::new(vec![in alloc; 1, 2]?);
-    Ok(Join::new(alloc, JoinShape::new(alloc, &left, &right)?, buckets)?)
-}
-
-// A join of rows (x, y) and rows (z, w), which have nothing in common.
-fn unlinked(alloc: Global, buckets: u32) -> Result<Join, Fail>
-    requires { 0 < buckets }
-    ensures { IfOk result IsReady }
-{
-    let left = Vars::new(vec![in alloc; 0, 1]?);
-    let right = Vars::new(vec![in alloc; 2, 3]?);
-    Ok(Join::new(alloc, JoinShape::new(alloc, &left, &right)?, buckets)?)
+    Ok(Join::new(alloc, shape_of(alloc, right)?, buckets)?)
 }
 
 // All matches of the row that came last.
@@ -56,97 +79,63 @@ fn drain(alloc: Global, join: &mut Join, given: &mut Vec<Row>) -> Result<(), Fai
 fn feed(
     alloc: Global,
     join: &mut Join,
-    side: Side,
-    row: Row,
+    event: (Side, i64, i64),
     given: &mut Vec<Row>,
 ) -> Result<(), Fail>
-    requires ready { IsReady join.old }
-    requires wide { length row ≡ 2 }
+    requires { IsReady join.old }
     ensures { OnOk result (IsReady join.new) }
 {
-    match join.arrive(alloc, side, row) {
+    let (side, first, second) = event;
+    match join.arrive(alloc, side, pair(alloc, first, second)?) {
         Arrive::Taken => drain(alloc, join, given),
         Arrive::NoMemory(_) => Err(Fail::from("out of memory")),
     }
 }
 
-// What a join gives for rows that come in this order.
+// What a join gives for rows that come in this order, sorted.
 fn given(alloc: Global, join: Join, events: &[(Side, i64, i64)]) -> Result<Vec<Row>, Fail>
     requires { IsReady join }
 {
     let mut join = join;
     let mut rows = Vec::new(alloc);
-    for (side, first, second) in events {
-        feed(
-            alloc,
-            &mut join,
-            *side,
-            pair(alloc, *first, *second)?,
-            &mut rows,
-        )?;
+    for event in events {
+        feed(alloc, &mut join, *event, &mut rows)?;
     }
     join.close(Side::Left);
+    if join.finished() {
+        return Err(Fail::from("finished before the right side ended"));
+    }
     join.close(Side::Right);
     if !join.finished() {
         return Err(Fail::from("not finished"));
     }
+    rows.sort()?;
     Ok(rows)
 }
 
-fn triple(alloc: Global, x: i64, y: i64, z: i64) -> Result<Row, Fail> {
-    Ok(Row::new(vec![in alloc; Value::Int(x), Value::Int(y), Value::Int(z)]?))
-}
-
-/// The key 1 on both sides: the second row gives one match, the third one, and the fourth two.
+/// The key 1, of bucket 8, on both sides: the second row gives one match, the third one, and the fourth two. A row of two
+/// integers weighs 19 bytes.
 #[test]
 fn each_row_gives_its_matches_at_once(rt: HostRuntime) -> Result<(), Fail> {
     let alloc = rt.alloc();
-    let mut join = linked(alloc, 16)?;
+    let mut join = join_of(alloc, Right::Linked, 16)?;
     let events = [
-        (Side::Left, 10, 1, 0),
-        (Side::Right, 1, 20, 1),
-        (Side::Left, 11, 1, 2),
-        (Side::Right, 1, 21, 4),
+        ((Side::Left, 10, 1), 0, 19, 0),
+        ((Side::Right, 1, 20), 1, 19, 19),
+        ((Side::Left, 11, 1), 2, 38, 19),
+        ((Side::Right, 1, 21), 4, 38, 38),
     ];
     let mut rows = Vec::new(alloc);
-    for (side, first, second, so_far) in events {
-        feed(
-            alloc,
-            &mut join,
-            side,
-            pair(alloc, first, second)?,
-            &mut rows,
-        )?;
+    for (event, so_far, left, right) in events {
+        feed(alloc, &mut join, event, &mut rows)?;
         assert_eq!(rt; rows.len(), so_far);
-        assert!(rt; !join.finished());
+        assert_eq!(rt; join.weights(Side::Left).get(8).copied(), Some(left));
+        assert_eq!(rt; join.weights(Side::Right).get(8).copied(), Some(right));
     }
     let expected = [(10, 20), (11, 20), (10, 21), (11, 21)];
     for (row, (x, z)) in rows.iter().zip(expected) {
-        assert_eq!(rt; row, &triple(alloc, x, 1, z)?);
-    }
-    Ok(())
-}
-
-/// Rows with nothing in common: each of three left ones with each of four right ones.
-#[test]
-fn rows_that_share_nothing_give_a_product(rt: HostRuntime) -> Result<(), Fail> {
-    let alloc = rt.alloc();
-    let events = [
-        (Side::Left, 1, 1),
-        (Side::Right, 4, 4),
-        (Side::Right, 5, 5),
-        (Side::Left, 2, 2),
-        (Side::Left, 3, 3),
-        (Side::Right, 6, 6),
-        (Side::Right, 7, 7),
-    ];
-    let mut rows = given(alloc, unlinked(alloc, 64)?, &events)?;
-    rows.sort()?;
-    assert_eq!(rt; rows.len(), 12);
-    for (index, row) in rows.iter().enumerate() {
-        let (x, z) = ((index / 4) as i64 + 1, (index % 4) as i64 + 4);
-        let expected = vec![in alloc; Value::Int(x), Value::Int(x), Value::Int(z), Value::Int(z)]?;
-        assert_eq!(rt; row, &Row::new(expected), "{index}");
+        let expected = vec![in alloc; Value::Int(x), Value::Int(1), Value::Int(z)]?;
+        assert_eq!(rt; row, &Row::new(expected));
     }
     Ok(())
 }
@@ -158,27 +147,36 @@ fn a_key_may_come_a_thousand_times(rt: HostRuntime) -> Result<(), Fail> {
     let mut events = Vec::new(alloc);
     for x in 0..1_000u16 {
         if x == 500 {
-            events.push((Side::Right, 7, -1))?;
+            events.push((Side::Right, 7, 1))?;
         }
         events.push((Side::Left, i64::from(x), 7))?;
     }
-    events.push((Side::Right, 7, -2))?;
-    let mut rows = given(alloc, linked(alloc, 16)?, events.as_slice())?;
-    rows.sort()?;
+    events.push((Side::Right, 7, 0))?;
+    let rows = given(alloc, join_of(alloc, Right::Linked, 16)?, events.as_slice())?;
     assert_eq!(rt; rows.len(), 2_000);
     for (index, row) in rows.iter().enumerate() {
-        let z = if index % 2 == 0 { -2 } else { -1 };
-        assert_eq!(rt; row, &triple(alloc, (index / 2) as i64, 7, z)?, "{index}");
+        let x = Value::Int((index / 2) as i64);
+        let z = Value::Int((index % 2) as i64);
+        assert_eq!(rt;
+            row,
+            &Row::new(vec![in alloc; x, Value::Int(7), z]?),
+            "{index}"
+        );
     }
     Ok(())
 }
 
-// The query with the atoms (x, y) and (y, z), and the head (x, y, z).
-fn query(alloc: Global) -> Result<Query, Fail>
-    ensures { IfOk result (λ query. length query.head ≡ 3) }
+// The query of the two atoms, whose head has the variables of a glued row.
+fn query(alloc: Global, right: Right) -> Result<Query, Fail>
+    ensures { IfOk result (λ query. length query.head ≤ 4) }
 {
+    let (variables, head) = match right {
+        Right::Linked => ([1, 2], vec![in alloc; 0, 1, 2]?),
+        Right::Apart => ([2, 3], vec![in alloc; 0, 1, 2, 3]?),
+        Right::Turned => ([1, 0], vec![in alloc; 0, 1]?),
+    };
     let mut atoms = Listed::new(alloc);
-    for variables in [[0u32, 1], [1, 2]] {
+    for variables in [[0, 1], variables] {
         let mut terms = Listed::new(alloc);
         for variable in variables {
             terms.push(Term::Variable(variable))?;
@@ -186,30 +184,39 @@ fn query(alloc: Global) -> Result<Query, Fail>
         atoms.push(Atom { relation: 0, terms })?;
     }
     Ok(Query {
-        head: Listed::from_vec(vec![in alloc; 0, 1, 2]?),
+        head: Listed::from_vec(head),
         atoms,
         comparisons: Listed::new(alloc),
     })
 }
 
-// The rows of one side.
-fn rows_of(alloc: Global, side: Side, events: &[(Side, i64, i64)]) -> Result<Rows, Fail> {
-    let mut rows = Rows::new(alloc);
-    for (own, first, second) in events {
-        if *own == side {
-            rows.push(alloc, &pair(alloc, *first, *second)?)?;
+// What nested choice gives for the same rows, sorted.
+fn chosen(alloc: Global, right: Right, events: &[(Side, i64, i64)]) -> Result<Vec<Row>, Fail> {
+    let mut arrivals = Arrivals::new(alloc);
+    for side in [Side::Left, Side::Right] {
+        let mut rows = Rows::new(alloc);
+        for (own, first, second) in events {
+            if *own == side {
+                rows.push(alloc, &pair(alloc, *first, *second)?)?;
+            }
         }
+        arrivals.push(rows)?;
     }
+    let mut rows = Vec::new(alloc);
+    for row in slow_heads(alloc, &query(alloc, right)?, &arrivals)?.iter() {
+        rows.push(row.to_row(alloc)?)?;
+    }
+    rows.sort()?;
     Ok(rows)
 }
 
-/// Small sides with few keys, in a random order: the join gives what nested choice gives, each as often.
+/// Small sides with few integers and texts, in a random order: what shares one variable, none or both gives what nested
+/// choice gives, each as often.
 #[test]
 fn random_sides_give_what_nested_choice_gives(rt: HostRuntime) -> Result<(), Fail> {
     let alloc = rt.alloc();
-    let query = query(alloc)?;
     let mut random = 1u32;
-    for round in 0..200 {
+    for round in 0..70 {
         let mut events = Vec::new(alloc);
         for _ in 0..24 {
             random = random.wrapping_mul(1_664_525).wrapping_add(1_013_904_223);
@@ -218,31 +225,27 @@ fn random_sides_give_what_nested_choice_gives(rt: HostRuntime) -> Result<(), Fai
             } else {
                 Side::Right
             };
-            events.push((
-                side,
-                i64::from((random >> 24) % 4),
-                i64::from((random >> 16) % 4),
-            ))?;
+            let first = i64::from((random >> 24) % 4) - 2;
+            let second = i64::from((random >> 16) % 4) - 2;
+            events.push((side, first, second))?;
         }
-        let mut rows = given(alloc, linked(alloc, 16)?, events.as_slice())?;
-        let mut arrivals = Arrivals::new(alloc);
-        arrivals.push(rows_of(alloc, Side::Left, events.as_slice())?)?;
-        arrivals.push(rows_of(alloc, Side::Right, events.as_slice())?)?;
-        let mut expected = Vec::new(alloc);
-        for row in slow_heads(alloc, &query, &arrivals)?.iter() {
-            expected.push(row.to_row(alloc)?)?;
-        }
-        rows.sort()?;
-        expected.sort()?;
-        assert_eq!(rt; rows, expected, "{round}");
+        let events = events.as_slice();
+        let linked = given(alloc, join_of(alloc, Right::Linked, 16)?, events)?;
+        assert_eq!(rt; linked, chosen(alloc, Right::Linked, events)?, "{round}");
+        let apart = given(alloc, join_of(alloc, Right::Apart, 64)?, events)?;
+        assert_eq!(rt; apart, chosen(alloc, Right::Apart, events)?, "{round}");
+        let turned = given(alloc, join_of(alloc, Right::Turned, 256)?, events)?;
+        assert_eq!(rt; turned, chosen(alloc, Right::Turned, events)?, "{round}");
     }
     Ok(())
 }
 
 fn may_be_sent<T: Send>() {}
 
-/// A join may be handed to another thread.
+/// A join and what it answers may be handed to another thread.
 #[test]
 fn joins_are_sent(_rt: HostRuntime) {
     may_be_sent::<Join>();
+    may_be_sent::<Arrive>();
+    may_be_sent::<OutStep>();
 }

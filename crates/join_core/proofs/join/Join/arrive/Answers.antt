@@ -1,16 +1,18 @@
-use Rattle.std.proofs.Common.{◌≡◌, ◌<◌, ◌+◌, [], ◌∷◌, ℕ, List, Option, Some, None, option_map, length, refl, sym, ap, subst, ◌∙◌, arith}
+use Rattle.std.proofs.Common.{◌≡◌, ◌+◌, [], ◌∷◌, Some, None, length, sym, ap, subst, ◌∙◌, arith}
 use Rattle.tuple_core.specs.Encoding.{row_encoding}
 use Rattle.tuple_core.specs.Hashing.{bucket_of}
 use Rattle.bucket_store.specs.Held.{Held, with_row}
 use Rattle.row_match.specs.Shapes.{key_row, vars_of}
 use Rattle.row_match.specs.declared.shape.Side.TheVariants as which
+use Rattle.answer_theory.specs.Bags.{SameBag}
+use Rattle.join_core.specs.Given.{pairs_given}
 use Rattle.join_core.specs.Kept.{IsJoin}
 use Rattle.join_core.specs.Sides.{buckets_on, joining_of, probing_of, with_buckets}
 use Rattle.join_core.specs.State.{Joining, arrived}
 use Rattle.join_core.specs.Steps.{JoinStep, on_side}
 use Rattle.join_core.specs.declared.probe.Probe.{Probe}
-use Rattle.join_core.proofs.Arriving.{arrive_step, arrived_is, begun, kept_as}
-use Rattle.join_core.proofs.Keeping.{bucket_inside, count_kept, keeps_arrival, no_probe, side_on}
+use Rattle.join_core.proofs.Arriving.{arrived_is, arrived_keeps, begun, kept_as}
+use Rattle.join_core.proofs.Keeping.{count_kept, keeps_arrival, no_probe}
 use Rattle.join_core.proofs.join.Join.arrive.Goals as goal
 
 pub invariant_of-self-2 : goal.invariant_of-self-2
@@ -61,26 +63,10 @@ returns-clause-arrives c =
 
 pub returns-clause-step : goal.returns-clause-step
 returns-clause-step c =
-    let held : Held = record { key = c.as_slice-key.result.now; row = c.args.row; number = c.self.inside.next } in
-    let wrote : c.insert.new.self ≡ with_buckets c.args.side c.self.inside.sides (with_row (buckets_on c.args.side c.self.inside.sides) held) = c.in_default-insert.ensures.ok in
-    let key : c.as_slice-key.result.now ≡ row_encoding (key_row c.args.side c.self.inside.shape c.args.row) = c.as_slice-key.ensures ∙ c.key_of.ensures.key in
-    let counted : c.in-Some.next ≡ c.self.inside.next + 1 = grind (arith, c.in-Some.ensures) in
-    let bucket : c.bucket_of.result ≡ bucket_of (length (buckets_on c.args.side c.self.inside.sides)) c.as_slice-key.result.now
-    = c.bucket_of.ensures.bucket ∙ ap (λ n. bucket_of n c.as_slice-key.result.now) (c.count.ensures.count ∙ ap length c.on.ensures ∙ ap (λ ss. length (buckets_on c.args.side ss)) wrote ∙ count_kept c.args.side c.self.inside.sides held) in
-    let idle : c.self.inside.probe ≡ None = no_probe c.self.inside.probe (ap (λ (s : Joining). s.probe) c.self.view_is ∙ c.requires.idle) in
-    let wide : length c.args.row ≡ length (vars_of c.args.side c.self.inside.shape) = c.requires.wide ∙ ap (λ (s : Joining). length (vars_of c.args.side s.shape)) (sym c.self.view_is) in
-    let start : joining_of c.self.inside.shape c.self.inside.sides c.self.inside.left_ended c.self.inside.right_ended c.self.inside.next None ≡ c.args.self.now
-    = ap (joining_of c.self.inside.shape c.self.inside.sides c.self.inside.left_ended c.self.inside.right_ended c.self.inside.next) (sym idle) ∙ c.self.view_is in
-    let probe : Probe = record { side = c.args.side; row = c.args.row; number = c.self.inside.next; bucket = c.bucket_of.result; place = 0; from = 0 } in
-    let begins : probing_of probe ≡ begun c.args.side (length (buckets_on c.args.side c.self.inside.sides)) (kept_as c.args.side c.self.inside.shape c.args.row c.self.inside.next)
-    = ap (λ b. record { side = c.args.side; number = c.self.inside.next; bucket = b; from = 0 }) (bucket ∙ ap (bucket_of (length (buckets_on c.args.side c.self.inside.sides))) key) in
-    let sides : c.insert.new.self ≡ with_buckets c.args.side c.self.inside.sides (with_row (buckets_on c.args.side c.self.inside.sides) (kept_as c.args.side c.self.inside.shape c.args.row c.self.inside.next))
-    = wrote ∙ ap (λ k. with_buckets c.args.side c.self.inside.sides (with_row (buckets_on c.args.side c.self.inside.sides) (record { key = k; row = c.args.row; number = c.self.inside.next }))) key in
-    subst (λ s. JoinStep s (joining_of c.self.inside.shape c.insert.new.self c.self.inside.left_ended c.self.inside.right_ended c.in-Some.next (Some probe)) (on_side c.args.side which.Left (c.args.row ∷ [])) (on_side c.args.side which.Right (c.args.row ∷ [])) []) start
-    (subst (λ ss. JoinStep (joining_of c.self.inside.shape c.self.inside.sides c.self.inside.left_ended c.self.inside.right_ended c.self.inside.next None) (joining_of c.self.inside.shape ss c.self.inside.left_ended c.self.inside.right_ended c.in-Some.next (Some probe)) (on_side c.args.side which.Left (c.args.row ∷ [])) (on_side c.args.side which.Right (c.args.row ∷ [])) []) (sym sides)
-    (subst (λ n. JoinStep (joining_of c.self.inside.shape c.self.inside.sides c.self.inside.left_ended c.self.inside.right_ended c.self.inside.next None)
-    (joining_of c.self.inside.shape (with_buckets c.args.side c.self.inside.sides (with_row (buckets_on c.args.side c.self.inside.sides) (kept_as c.args.side c.self.inside.shape c.args.row c.self.inside.next))) c.self.inside.left_ended c.self.inside.right_ended n (Some probe))
-    (on_side c.args.side which.Left (c.args.row ∷ [])) (on_side c.args.side which.Right (c.args.row ∷ [])) []) (sym counted)
-    (arrive_step c.args.side c.self.inside.shape c.self.inside.sides c.self.inside.left_ended c.self.inside.right_ended c.self.inside.next c.args.row probe begins
-    (bucket_inside (buckets_on c.args.side c.self.inside.sides) (row_encoding (key_row c.args.side c.self.inside.shape c.args.row)) (side_on c.args.side c.self.inside.shape c.self.inside.sides c.self.inside.next c.self.invariant.left c.self.invariant.right).placed)
-    (side_on c.args.side c.self.inside.shape c.self.inside.sides c.self.inside.next c.self.invariant.left c.self.invariant.right).each c.self.invariant.many)))
+    subst (λ t. JoinStep c.args.self.now t (on_side c.args.side which.Left (c.args.row ∷ [])) (on_side c.args.side which.Right (c.args.row ∷ [])) []) (sym (returns-clause-arrives c))
+    (arrived_keeps c.args.side c.self.inside.shape c.self.inside.sides c.self.inside.left_ended c.self.inside.right_ended c.self.inside.next c.self.inside.key c.self.inside.probe c.args.self.now c.args.row c.self.invariant c.self.view_is c.requires.idle).step
+
+pub returns-clause-pairs : goal.returns-clause-pairs
+returns-clause-pairs c =
+    subst (λ t. SameBag (pairs_given t) (pairs_given c.args.self.now)) (sym (returns-clause-arrives c))
+    (arrived_keeps c.args.side c.self.inside.shape c.self.inside.sides c.self.inside.left_ended c.self.inside.right_ended c.self.inside.next c.self.inside.key c.self.inside.probe c.args.self.now c.args.row c.self.invariant c.self.view_is c.requires.idle).same_pairs

@@ -1,4 +1,4 @@
-use Rattle.std.proofs.Common.{◌≡◌, [], replicate, false, None, sym, ap, ◌∙◌}
+use Rattle.std.proofs.Common.{false, None, ap, ◌∙◌}
 use Rattle.join_core.specs.Sides.{joining_of}
 use Rattle.join_core.proofs.Finishing.{fresh_is}
 use Rattle.join_core.proofs.join.Join.new.Goals as goal

@@ -1,9 +1,9 @@
-use Rattle.std.proofs.Common.{◌≡◌, ◌<◌, ◌+◌, [], ◌∷◌, ℕ, List, Option, Some, None, length, get_or, refl, sym, ap, subst, ◌∙◌, arith}
+use Rattle.std.proofs.Common.{◌≡◌, ◌<◌, ◌+◌, [], Some, None, length, get_or, refl, sym, ap, subst, ◌∙◌}
 use Rattle.bucket_store.specs.Held.{no_row, rows_in}
 use Rattle.row_match.specs.Shapes.{vars_of}
 use Rattle.join_core.specs.Kept.{IsJoin, facing_rows}
 use Rattle.join_core.specs.Sides.{buckets_on, glued_on, joining_of, opposite}
-use Rattle.join_core.specs.Steps.{Gives, GivesNothing, JoinStep}
+use Rattle.join_core.specs.Steps.{GivesMatch, GivesNothing, JoinStep}
 use Rattle.join_core.proofs.Stepping.{gives_step, nothing_idle}
 use Rattle.join_core.proofs.Turning.{found_by, found_in, found_inside, gives_nothing, gives_row, keeps_row, moves, own_wide, partner_wide}
 use Rattle.join_core.proofs.join.Join.next_out.Goals as goal
@@ -72,7 +72,7 @@ returns-clause-gives c =
     let number = c.number-number.ensures ∙ c.entry.ensures ∙ ap (λ f. (get_or (rows_in f c.in-Some.probe.bucket) c.in-Some-probe.place no_row).number) facing in
     let moved = moves c.take.result c.moved_on.result c.in-Some.probe (c.in-Some-probe.place + 1) (c.number-number.result + 1) c.in-Some-probe.place (get_or (facing_rows c.self.inside.sides c.in-Some.probe) c.in-Some-probe.place no_row).number
     c.moved_on.ensures (c.take.ensures.value ∙ c.in-Some.is) refl (ap (λ n. n + 1) number) in
-    subst (λ s. Gives s (joining_of c.self.inside.shape c.self.inside.sides c.self.inside.left_ended c.self.inside.right_ended c.self.inside.next c.moved_on.result) c.in-Ok.glued)
+    subst (λ s. GivesMatch s (joining_of c.self.inside.shape c.self.inside.sides c.self.inside.left_ended c.self.inside.right_ended c.self.inside.next c.moved_on.result) c.in-Ok.glued)
     (ap (joining_of c.self.inside.shape c.self.inside.sides c.self.inside.left_ended c.self.inside.right_ended c.self.inside.next) (sym c.in-Some.is) ∙ c.self.view_is)
     (gives_row c.self.inside.shape c.self.inside.sides c.self.inside.next c.self.inside.key c.in-Some.probe joined c.self.inside.left_ended c.self.inside.right_ended c.moved_on.result c.in-Some-probe.place c.in-Ok.glued found moved
     (c.in-Ok.ensures ∙ ap (λ f. glued_on c.in-Some.probe.side c.self.inside.shape c.in-Some.probe.row (get_or (rows_in f c.in-Some.probe.bucket) c.in-Some-probe.place no_row).row) facing))
@@ -85,7 +85,7 @@ returns-clause-step c = gives_step c.args.self.now (joining_of c.self.inside.sha
     let number = c.number-number.ensures ∙ c.entry.ensures ∙ ap (λ f. (get_or (rows_in f c.in-Some.probe.bucket) c.in-Some-probe.place no_row).number) facing in
     let moved = moves c.take.result c.moved_on.result c.in-Some.probe (c.in-Some-probe.place + 1) (c.number-number.result + 1) c.in-Some-probe.place (get_or (facing_rows c.self.inside.sides c.in-Some.probe) c.in-Some-probe.place no_row).number
     c.moved_on.ensures (c.take.ensures.value ∙ c.in-Some.is) refl (ap (λ n. n + 1) number) in
-    subst (λ s. Gives s (joining_of c.self.inside.shape c.self.inside.sides c.self.inside.left_ended c.self.inside.right_ended c.self.inside.next c.moved_on.result) c.in-Ok.glued)
+    subst (λ s. GivesMatch s (joining_of c.self.inside.shape c.self.inside.sides c.self.inside.left_ended c.self.inside.right_ended c.self.inside.next c.moved_on.result) c.in-Ok.glued)
     (ap (joining_of c.self.inside.shape c.self.inside.sides c.self.inside.left_ended c.self.inside.right_ended c.self.inside.next) (sym c.in-Some.is) ∙ c.self.view_is)
     (gives_row c.self.inside.shape c.self.inside.sides c.self.inside.next c.self.inside.key c.in-Some.probe joined c.self.inside.left_ended c.self.inside.right_ended c.moved_on.result c.in-Some-probe.place c.in-Ok.glued found moved
     (c.in-Ok.ensures ∙ ap (λ f. glued_on c.in-Some.probe.side c.self.inside.shape c.in-Some.probe.row (get_or (rows_in f c.in-Some.probe.bucket) c.in-Some-probe.place no_row).row) facing)))

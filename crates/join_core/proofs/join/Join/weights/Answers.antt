@@ -1,4 +1,4 @@
-use Rattle.std.proofs.Common.{◌≡◌, ap, ◌∙◌}
+use Rattle.std.proofs.Common.{ap, ◌∙◌}
 use Rattle.bucket_store.specs.Held.{weights_of}
 use Rattle.join_core.specs.State.{pile_weights, piles_of}
 use Rattle.join_core.proofs.Finishing.{weights_are}
