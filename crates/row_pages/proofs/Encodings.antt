@@ -4,6 +4,7 @@ use Rattle.std.specs.List.{All}
 use Rattle.std.proofs.lemmas.List.{get_or-map, map-append, length-map}
 use Rattle.std.proofs.lemmas.List.Elements.{All-push, All-map}
 use Rattle.std.proofs.lemmas.Option.{get_or_from_slice_get}
+use Rattle.std.proofs.lemmas.Result.{on_ok_weaker}
 use Rattle.med_prelude.specs.Texts.{Bytes}
 use Rattle.tuple_core.proofs.Back.{row_back}
 use Rattle.tuple_core.specs.Decoding.{row_and_rest}
@@ -31,6 +32,15 @@ pub rows_pushed : {A E : Type 0} (old new : List Bytes) (rows : RowList) (row : 
 rows_pushed old new rows row (Ok x) is fits ok =
     ap (map row_of) ok ∙ map-append row_of old (row_encoding row ∷ []) ∙ ap₂ (λ xs x. xs ++ x ∷ []) is (encoded row fits)
 rows_pushed old new rows row (Err why) is fits ok = tt
+
+-- the same of bytes that are the encoding
+pub all_pushed_bytes : {A E : Type 0} (old new : List Bytes) (row : RowValues) (bytes : Bytes) (result : Result A E) → All IsEncoding old → FitsRow row → bytes ≡ row_encoding row
+    → OnOk result (new ≡ old ++ bytes ∷ []) → OnErr result (new ≡ old) → All IsEncoding new
+all_pushed_bytes old new row bytes result all fits are ok err = all_pushed old new row result all fits (on_ok_weaker result (λ e. e ∙ ap (λ bs. old ++ bs ∷ []) are) ok) err
+
+pub rows_pushed_bytes : {A E : Type 0} (old new : List Bytes) (rows : RowList) (row : RowValues) (bytes : Bytes) (result : Result A E) → map row_of old ≡ rows → FitsRow row → bytes ≡ row_encoding row
+    → OnOk result (new ≡ old ++ bytes ∷ []) → OnOk result (map row_of new ≡ rows ++ row ∷ [])
+rows_pushed_bytes old new rows row bytes result is fits are ok = rows_pushed old new rows row result is fits (on_ok_weaker result (λ e. e ∙ ap (λ bs. old ++ bs ∷ []) are) ok)
 
 -- the list is as it was, or it has those at some indices
 pub all_selected : {A E : Type 0} (old new : List Bytes) (indices : List ℕ) (result : Result A E) → All IsEncoding old → All (λ index. index < length (map row_of old)) indices

@@ -9,6 +9,9 @@ use std::alloc::{AllocError, Global};
 use std::marker::Model;
 use tuple_core::{Row, encode, weight};
 
+#[cfg(test)]
+mod tests;
+
 /// The bytes of a page, in which short byte strings lie. A longer one has a page of its own.
 pub const PAGE: usize = 65_536;
 

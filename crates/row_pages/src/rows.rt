@@ -59,6 +59,14 @@ impl Rows {
         self.pieces.push_row(alloc, &[], row)
     }
 
+    /// Puts a copy of a row that lies elsewhere at the end. Where memory runs out, or at 2^32 pages, the list is as it was.
+    pub fn push_encoded(&mut self, alloc: Global, row: &EncodedRow<'_>) -> Result<(), AllocError>
+        ensures ok { OnOk result (self.new ≡ self.old ++ row.now ∷ []) }
+        ensures err { OnErr result (self.new ≡ self.old) }
+    {
+        self.pieces.push(alloc, row.bytes())
+    }
+
     /// The row at an index, where it lies.
     pub fn get(&self, index: usize) -> Option<EncodedRow<'_>>
         ensures { result ≡ slice_get self.now index }

@@ -10,6 +10,15 @@ fn are_same(x: &Rows, y: &Rows) -> bool {
     x.len() == y.len() && (0..x.len()).all(|index| x.get(index) == y.get(index))
 }
 
+// The rows once more, each copied from where it lies.
+fn copied(alloc: Global, rows: &Rows) -> Result<Rows, AllocError> {
+    let mut copy = Rows::new(alloc);
+    for row in rows.iter() {
+        copy.push_encoded(alloc, &row)?;
+    }
+    Ok(copy)
+}
+
 // Lists of rows, and the same in order. The rows of the last share their first thirty bytes.
 const LISTS: [(&str, &str); 4] = [
     (
@@ -87,6 +96,7 @@ fn finds_repeats_in_different_pages(rt: HostRuntime) -> Result<(), Fail> {
     let sorted = sorted_distinct(rt.alloc(), rows)?;
     let wanted = long_rows(rt.alloc(), &[60_000, 60_001, 65_530, 9])?;
     assert!(rt; are_same(&sorted, &wanted));
+    assert!(rt; are_same(&copied(rt.alloc(), &sorted)?, &wanted));
     Ok(())
 }
 
