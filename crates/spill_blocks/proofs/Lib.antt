@@ -1,0 +1,9 @@
+pub mod EntryLaws
+pub mod ListLaws
+pub mod ReadLaws
+pub mod RestLaws
+pub mod LieLaws
+pub mod WindowLaws
+pub mod PlaceLaws
+pub mod TableLaws
+pub mod GiveLaws
