@@ -54,13 +54,6 @@ counts_before blocks shapes k e = ap (λ ss. count_of (take k ss)) (sym e) ∙ a
 pub counts_all : (blocks : List (List Kept)) (shapes : List BlockShape) → map shape_of blocks ≡ shapes → count_of shapes ≡ length (all_entries blocks)
 counts_all blocks shapes e = ap count_of (sym e) ∙ counts_of blocks
 
--- one shape more
-pub count_more : (shapes : List BlockShape) (k : ℕ) → k < length shapes → count_of (take (k + 1) shapes) ≡ count_of (take k shapes) + (get_or shapes k (record { count = 0; width = 0 })).count
-count_more shapes k inside =
-    ap count_of (take_more shapes k (record { count = 0; width = 0 }) inside)
-    ∙ sum_by-append shape_count (take k shapes) (get_or shapes k (record { count = 0; width = 0 }) ∷ [])
-    ∙ ap (λ n. count_of (take k shapes) + n) (sum_by-cons shape_count (get_or shapes k (record { count = 0; width = 0 })) [] ∙ omega arith)
-
 -- ---- one block
 
 told_of : {X : Type 0} (told : Option X) (x : X) (P : X → Type 0) → told ≡ Some x → IfSome told P → P x
@@ -104,14 +97,6 @@ pub record IsScanned (s : BlockState) (from stop position : ℕ) (entries : List
   pub within : position ≤ max from stop
   pub wide : (width : ℕ) → IsSpoolWide width s → AreWide width entries
   pub told : IfSome s.told (λ blocks. entries ≡ take (length entries) (drop from (all_entries blocks)))
-
-pub scanned_none : (s : BlockState) (from stop : ℕ) → IsScanned s from stop from []
-scanned_none s from stop = record {
-  reached = omega arith;
-  within = omega arith;
-  wide = λ width all. All-nil (λ (kept : Kept). length kept.row ≡ width);
-  told = if_told s.told (λ blocks. [] ≡ take 0 (drop from (all_entries blocks))) (λ blocks e. refl);
-}
 
 pub scanned_more : (s : BlockState) (from stop position : ℕ) (old new : List Kept) → position < stop → IsScanned s from stop position old → ScansPart s position stop old new → IsScanned s from stop (from + length new) new
 scanned_more s from stop position old new more is (given, gains, part) =
@@ -172,12 +157,6 @@ rows_put old new rows block put = ap (option_map (λ (blocks : List (List Kept))
 
 -- ---- a file that is only read
 
-pub only_reads : (s : BlockState) → OnlyReads s s
-only_reads s = (
-  record { number = refl; form = refl; shapes = refl; told = refl },
-  record { content = refl; past_end = refl; same = record { number = refl; limit = refl; faults = omega arith } },
-)
-
 pub reads_on : (s t u : BlockState) → OnlyReads s t → OnlyReads t u → OnlyReads s u
 reads_on s t u first next = (
   record { number = next.0.number ∙ first.0.number; form = next.0.form ∙ first.0.form; shapes = next.0.shapes ∙ first.0.shapes; told = next.0.told ∙ first.0.told },
@@ -199,24 +178,3 @@ part_kept s t position stop old new keeps (given, gains, part) = (
     told = rw keeps.0.told at part.told;
   },
 )
-
-pub refuses_kept : (s t u : BlockState) (fault : BlockFault) → OnlyReads s t → RefusesScan t fault u → RefusesScan s fault u
-refuses_kept s t u SpillFault keeps h = rose_later s.file.faults t.file.faults u.file.faults keeps.1.same.faults h
-refuses_kept s t u (SpillFull need limit) keeps h = absurd h
-refuses_kept s t u (Differs kept found) keeps (block, inside, finds) = (
-  block,
-  rw keeps.0.shapes at inside,
-  record {
-    is_kept = rw keeps.0.shapes at finds.is_kept;
-    differs = finds.differs;
-    content_untold = ap told_content (sym keeps.1.content) ∙ finds.content_untold;
-    entries_untold = sym keeps.0.told ∙ finds.entries_untold;
-  },
-)
-refuses_kept s t u NoMemory keeps h = tt
-
-pub refuses_block : (s u : BlockState) (block : ℕ) (fault : BlockFault) → block < length s.shapes → RefusesRows s block fault u → RefusesScan s fault u
-refuses_block s u block SpillFault inside h = h
-refuses_block s u block (SpillFull need limit) inside h = absurd h
-refuses_block s u block (Differs kept found) inside h = (block, inside, h)
-refuses_block s u block NoMemory inside h = tt

@@ -17,12 +17,13 @@ fn value_of(alloc: Global, text: &str) -> Result<Value, Fail>
     Ok(parse_value(alloc, Kind::Text, text.as_bytes())?.ok_or("no value")?)
 }
 
-// Rows of one text, the decimal numbers from `first` on.
-fn rows_from(alloc: Global, first: u64, length: u64) -> Result<Rows, Fail> {
+// Rows of one text, the decimal numbers from `first` on, in at least so many letters.
+fn rows_from(alloc: Global, first: u64, length: u64, letters: usize) -> Result<Rows, Fail> {
     let mut rows = Rows::new(alloc);
     for step in 0..length {
         let mut values = Vec::new(alloc);
-        let text = format!(in alloc; "row {}", first.wrapping_add(step))?;
+        let number = first.wrapping_add(step);
+        let text = format!(in alloc; "{number:0letters$}")?;
         values.push(value_of(alloc, text.as_str())?)?;
         rows.push(alloc, &Row::new(values))?;
     }
@@ -58,45 +59,66 @@ fn same_rows(rows: &Rows, from: u64, whole: &Rows) -> usize {
 #[test]
 fn scans_give_what_was_appended(rt: HostRuntime) -> Result<(), Fail> {
     let alloc = rt.alloc();
-    let whole = rows_from(alloc, 0, 700)?;
+    let whole = rows_from(alloc, 0, 70, 1)?;
     let file = CalmSpill::new(alloc, 0, 1_000_000);
     let mut spool = Spool::new(BlockFile::new(alloc, file, 0, EntryForm::Spool));
     let mut first = 0u64;
-    for length in [1, 0, 399, 7, 293] {
-        append(alloc, &mut spool, &rows_from(alloc, first, length)?)??;
+    for length in [1, 0, 39, 7, 23] {
+        append(alloc, &mut spool, &rows_from(alloc, first, length, 1)?)??;
         first = first.wrapping_add(length);
     }
-    assert_eq!(rt; spool.finish(), 700);
-    for room in [1, 3, 400, 5_000] {
-        for step in 0..=701u64 {
-            let from = step.wrapping_mul(u64::from(room));
+    assert_eq!(rt; spool.finish(), 70);
+    for room in [1, 3, 40, 500] {
+        for from in (0..=71u64).rev() {
             let rows = spool.scan(alloc, from, room)?;
-            let left = 700u64.saturating_sub(from).min(u64::from(room));
+            let left = 70u64.saturating_sub(from).min(u64::from(room));
             assert_eq!(rt; rows.len() as u64, left, "from {from}");
             assert_eq!(rt; same_rows(&rows, from, &whole), rows.len(), "from {from}");
         }
     }
-    for from in [699, 400, 399, 8, 1, 0] {
-        assert_eq!(rt;
-            same_rows(&spool.scan(alloc, from, 2)?, from, &whole),
-            if from < 699 { 2 } else { 1 }
-        );
-    }
     assert_eq!(rt; spool.into_file().blocks(), 4);
+    Ok(())
+}
+
+// A spool whose file fails where its script says.
+fn scripted(
+    alloc: Global,
+    limit: u64,
+    appends: Vec<usize>,
+    reads: Vec<usize>,
+) -> Spool<MemSpill> {
+    let script = SpillScript {
+        file: 0,
+        appends,
+        reads,
+    };
+    let spill = MemSpill::new(alloc, limit, script);
+    Spool::new(BlockFile::new(alloc, spill, 0, EntryForm::Spool))
+}
+
+// Two rows of 10,000 letters make a block of 20,024 bytes, and seven blocks end in the third piece of the file. The fourth
+// read fails.
+#[test]
+fn a_spool_that_is_scanned_in_order_is_read_once(rt: HostRuntime) -> Result<(), Fail> {
+    let alloc = rt.alloc();
+    let whole = rows_from(alloc, 0, 14, 10_000)?;
+    let mut spool = scripted(alloc, 1_000_000, Vec::new(alloc), vec![in alloc; 3]?);
+    for block in 0..7u64 {
+        append(alloc, &mut spool, &rows_from(alloc, 2 * block, 2, 10_000)?)??;
+    }
+    for from in 0..14u64 {
+        let rows = spool.scan(alloc, from, 1)?;
+        assert_eq!(rt; same_rows(&rows, from, &whole), 1, "from {from}");
+    }
+    assert_eq!(rt; spool.scan(alloc, 0, 1).err(), Some(BlockFault::SpillFault));
     Ok(())
 }
 
 #[test]
 fn refusals_are_told(rt: HostRuntime) -> Result<(), Fail> {
     let alloc = rt.alloc();
-    let rows = rows_from(alloc, 0, 3)?;
-    let script = SpillScript {
-        file: 0,
-        appends: vec![in alloc; 0]?,
-        reads: vec![in alloc; 0]?,
-    };
-    let spill = MemSpill::new(alloc, 48, script);
-    let mut spool = Spool::new(BlockFile::new(alloc, spill, 0, EntryForm::Spool));
+    let rows = rows_from(alloc, 0, 3, 5)?;
+    let mut spool = scripted(alloc, 48, vec![in alloc; 0]?, vec![in alloc; 0]?);
     let answers = [
         Err(BlockFault::SpillFault),
         Ok(()),

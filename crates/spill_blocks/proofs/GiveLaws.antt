@@ -156,10 +156,6 @@ told_too_few form told end blocks index from stop w place table inside reached e
     let lies : LieAt form block.width w.end content place.at (drop place.next es) = rw ends (at_told told content (λ c. LieAt form block.width end c place.at (drop place.next (entries_of form c block))) e reached.lies) in
     too_few content (same ∙ e) (drop place.next es) (omega (arith, counted, length-drop place.next es)) lies
 
-pub told_head : (form : EntryForm) (told : ToldBytes) (end : ℕ) (blocks : List Block) (index : ℕ) (w : Window) → IsTable form told end blocks → index < length blocks → file_content w.file ≡ told → LacksHead (block_at blocks index) w → (content : Bytes) → told ≡ Some content → ⊥
-told_head form told end blocks index w table inside same lacks content e =
-    lacks content (same ∙ e) ((at_told told content (λ c. (end ≤ length c) × All (IsBlock form end c) blocks) e table.blocks_are).1 index no_block inside).head
-
 -- ---- the call
 
 pub inside_of : (number : ℕ) (form : EntryForm) (file : FileState) (blocks : List Block) (s : BlockState) (index block : ℕ) → state_of number form file blocks ≡ s → index ≡ block → block < length s.shapes → index < length blocks
@@ -194,10 +190,3 @@ refuses_from (SpillFull need limit) number form blocks index from stop old mid n
 refuses_from (Differs kept found) number form blocks index from stop old mid new place table inside reached keeps within h =
     finds_other number form old.file blocks index kept found inside h.0 h.1 (told_too_few form (file_content old.file) old.end blocks index from stop mid place table inside reached keeps.end (content_kept old mid keeps) within h.2)
 refuses_from NoMemory number form blocks index from stop old mid new place table inside reached keeps within h = tt
-
-pub refuses_open : (fault : BlockFault) (number : ℕ) (form : EntryForm) (blocks : List Block) (index : ℕ) (old new : Window) → IsTable form (file_content old.file) old.end blocks → index < length blocks → FailsToOpen (block_at blocks index) fault old new
-    → RefusesRows (state_of number form old.file blocks) index fault (state_of number form new.file blocks)
-refuses_open SpillFault number form blocks index old new table inside h = h
-refuses_open (SpillFull need limit) number form blocks index old new table inside h = absurd h
-refuses_open (Differs kept found) number form blocks index old new table inside h = finds_other number form old.file blocks index kept found inside h.0 h.1 (told_head form (file_content old.file) old.end blocks index old table inside refl h.2)
-refuses_open NoMemory number form blocks index old new table inside h = tt

@@ -25,7 +25,7 @@ use Rattle.spill_blocks.specs.declared.seeking.Wanted.{Wanted}
 use Rattle.spill_blocks.specs.declared.table.Block.{Block}
 use Rattle.spill_blocks.specs.declared.table.Place.{Place}
 use Rattle.spill_blocks.proofs.LieLaws.{first_found, first_there, lie_on}
-use Rattle.spill_blocks.proofs.WindowLaws.{at_told, held_on, if_told, keeps_on, rose_later}
+use Rattle.spill_blocks.proofs.WindowLaws.{at_told, if_told, rose_later}
 
 -- told content stays told
 pub content_kept : (u w : Window) → KeepsFile u w → file_content w.file ≡ file_content u.file
@@ -47,20 +47,6 @@ reads_none wanted w place before low within reached = record {
         rw none lie,
         sym (ap (λ n. drop (wanted.from - place.next) (take n left)) none ∙ drop_all (wanted.from - place.next) [] (omega arith)),
       ));
-}
-
--- another piece is held
-pub reads_kept : (wanted : Wanted) (u w : Window) (first : Place) (before : List Kept) (place : Place) (entries : List Kept) → KeepsFile u w → ReadsFrom wanted u first before place entries → ReadsFrom wanted w first before place entries
-reads_kept wanted u w first before place entries keeps r = record {
-  later = r.later;
-  within = r.within;
-  reached = rw keeps.end r.reached;
-  given = r.given;
-  gains = r.gains;
-  many = r.many;
-  wide = r.wide;
-  formed = r.formed;
-  told = rw (content_kept u w keeps, keeps.end) r.told;
 }
 
 -- the place behind an entry that was read of what is held
@@ -149,43 +135,11 @@ passes_one wanted w first before place entries held x r more low is parts = reco
 
 -- ---- the measure
 
-pub falls_by_one : (wanted : Wanted) (w : Window) (place : Place) (held rest : Bytes) → IsHeld w place.at held → place.next < wanted.stop → left_to_read wanted w (place_behind place held rest) < left_to_read wanted w place
-falls_by_one wanted w place held rest is more =
-    let n = length held - length rest in
-    let long : length (held_from w place.at) ≡ length held = sym (ap length is.are) in
-    let on : length (held_from w (place.at + n)) ≡ length held - n = ap length (held_on w place.at n (omega arith)) ∙ length-drop n (held_from w place.at) ∙ ap (λ m. m - n) long in
-    omega arith
-
-pub falls_by_loading : (wanted : Wanted) (u w : Window) (place : Place) → KeepsFile u w → place.at ≤ u.end → HoldsMore u place.at w → left_to_read wanted w place < left_to_read wanted u place
-falls_by_loading wanted u w place keeps inside more = omega (arith, keeps.end, more.more, more.many)
-
 -- ---- why reading stops
-
-pub fails_at : (wanted : Wanted) (fault : BlockFault) (old : Window) (place : Place) (new : Window) → FailsToRead fault old.file new.file → FailsAt wanted fault old place new
-fails_at wanted SpillFault old place new h = h
-fails_at wanted (SpillFull need limit) old place new h = absurd h
-fails_at wanted (Differs kept found) old place new h = absurd h
-fails_at wanted NoMemory old place new h = tt
 
 pub nothing_lies : (wanted : Wanted) (w : Window) (place : Place) (held : Bytes) → IsHeld w place.at held → place.at + length held ≡ w.end → None ≡ entry_and_rest wanted.form wanted.width held → NothingLies wanted w place
 nothing_lies wanted w place held is all none content e [] some lie = omega arith
 nothing_lies wanted w place held is all none content e (kept ∷ left) some lie = first_there wanted.form wanted.width w.end content place.at kept left held lie (held_told w place.at held content is e) all none
-
-pub fails_from : (wanted : Wanted) (fault : BlockFault) (u w new : Window) (first place : Place) (before entries : List Kept) → KeepsFile u w → ReadsFrom wanted w first before place entries → place.next < wanted.stop
-    → FailsAt wanted fault w place new → FailsFrom wanted fault u first new
-fails_from wanted SpillFault u w new first place before entries keeps r more h = rose_later u.file.faults w.file.faults new.file.faults keeps.file.same.faults h
-fails_from wanted (SpillFull need limit) u w new first place before entries keeps r more h = absurd h
-fails_from wanted (Differs kept found) u w new first place before entries keeps r more h = (h.0, h.1, too_few)
-  where
-    too_few : TooFewLie wanted u first
-    too_few content e left enough lie =
-        let told : file_content w.file ≡ Some content = content_kept u w keeps ∙ e in
-        let rest = at_told (file_content w.file) content (λ bytes. IsRest wanted w.end bytes first place r.given) told r.told in
-        let lies : LieAt wanted.form wanted.width w.end content first.at left = rw keeps.end lie in
-        let here = rest left lies enough in
-        let some : 0 < length (drop (place.next - first.next) left) = omega (arith, length-drop (place.next - first.next) left, r.later) in
-        h.2 content told (drop (place.next - first.next) left) some here.0
-fails_from wanted NoMemory u w new first place before entries keeps r more h = tt
 
 -- ---- the head of a block
 

@@ -1,4 +1,4 @@
-//! What no clause says: that each call gives an answer, a block's bytes by hand, and a file that lies.
+//! What no clause says: that each call gives an answer, a block's bytes by hand, a file that lies, and how often it is read.
 
 ghost use Rattle.std.specs.Prelude.{◌≡◌, ◌<◌, ◌≤◌, ◌^◌, [], IfOk, OnOk, length};
 ghost use Rattle.med_base.specs.Spills.{TellsLength, file_length};
@@ -9,7 +9,6 @@ use crate::{BlockFault, BlockFile, BlockId, Entries, EntryForm, have_one_width};
 use med_base::{CalmSpill, MemSpill, Spill, SpillFault, SpillScript};
 use row_pages::Rows;
 use std::alloc::Global;
-use std::process;
 use std::test::Fail;
 use tuple_core::{Kind, Row, Value, parse_value};
 
@@ -35,11 +34,10 @@ fn row_of(alloc: Global, line: &str) -> Result<Row, Fail> {
     Ok(Row::new(values))
 }
 
-// Entries of a number and a text, whose lengths go up and down: `length` entries, the numbers from `first` on.
-fn entries_from(alloc: Global, first: u64, length: u64) -> Result<Entries, Fail> {
+// Entries of a number and a text, whose lengths go up and down: each 300 of them have 300 different ones.
+fn entries_of(alloc: Global, length: u64) -> Result<Entries, Fail> {
     let mut entries = Entries::new(alloc);
-    for step in 0..length {
-        let number = first.wrapping_add(step);
+    for number in 0..length {
         let mut line = format!(in alloc; "{number}|")?;
         for _ in 0..number.wrapping_mul(7_919) % 300 {
             line.push_str("abc")?;
@@ -58,7 +56,6 @@ fn put<F: Spill>(
 ) -> Result<Result<BlockId, BlockFault>, Fail>
     requires { file.old.form ≡ form.Join }
     ensures form { file.new.form ≡ form.Join }
-    ensures grows { length file.old.shapes ≤ length file.new.shapes }
     ensures block { IfOk result (λ answer. IfOk answer (λ block. block < length file.new.shapes)) }
 {
     if entries.is_empty() || entries.len() > 100_000 || !entries.have_one_width() {
@@ -80,11 +77,15 @@ fn same_entries(read: &Entries, from: usize, whole: &Entries) -> usize {
     same
 }
 
-/// A spill file that tells no content, and gives 0 for its first bytes.
+/// A spill file that tells no content, counts how often it was read, and gives one byte in place of those from an offset
+/// on up to another.
 #[derive(Drop)]
 struct LyingSpill {
     inner: CalmSpill,
-    zeros: usize,
+    start: u64,
+    end: u64,
+    byte: u8,
+    reads: u32,
 }
 
 impl Spill for LyingSpill {
@@ -95,13 +96,27 @@ impl Spill for LyingSpill {
     }
 
     fn read_at(&mut self, at: u64, room: &mut [u8]) -> Result<usize, SpillFault> {
+        self.reads = self.reads.saturating_add(1);
         let count = self.inner.read_at(at, room)?;
-        for (index, byte) in room.iter_mut().enumerate() {
-            if (index as u64) < (self.zeros as u64).saturating_sub(at) {
-                *byte = 0;
+        for index in 0..room.len() {
+            let offset = at.saturating_add(index as u64);
+            if self.start <= offset && offset < self.end {
+                room[index] = self.byte;
             }
         }
         Ok(count)
+    }
+}
+
+fn lying(alloc: Global, start: u64, end: u64, byte: u8) -> LyingSpill
+    ensures { (⟦<LyingSpill as Spill>⟧.state result).limit ≡ 1000000 }
+{
+    LyingSpill {
+        inner: CalmSpill::new(alloc, 0, 1_000_000),
+        start,
+        end,
+        byte,
+        reads: 0,
     }
 }
 
@@ -110,41 +125,51 @@ const PARIS: [u8; 23] = [
     0, 0, 0, 1, 0, 0, 0, 0, 0, 0, 0, 11, 1, 2, 0, 0, 0, 5, b'p', b'a', b'r', b'i', b's',
 ];
 
-fn paris(alloc: Global) -> Result<Rows, Fail> {
+fn rows_of(alloc: Global, lines: &str) -> Result<Rows, Fail> {
     let mut rows = Rows::new(alloc);
-    rows.push(alloc, &row_of(alloc, "paris")?)?;
+    for line in lines.lines() {
+        rows.push(alloc, &row_of(alloc, line)?)?;
+    }
     Ok(rows)
+}
+
+// Puts the rows as a block of a spool's file.
+fn put_spooled<F: Spill>(
+    alloc: Global,
+    file: &mut BlockFile<F>,
+    rows: &Rows,
+) -> Result<Result<BlockId, BlockFault>, Fail>
+    ensures { IfOk result (λ answer. IfOk answer (λ block. block < length file.new.shapes)) }
+{
+    if rows.is_empty() || rows.len() > 100_000 || !have_one_width(rows) {
+        return Err(Fail::from("no block"));
+    }
+    Ok(file.put_spooled(alloc, rows))
 }
 
 #[test]
 fn a_block_is_its_bytes(rt: HostRuntime) -> Result<(), Fail> {
     let alloc = rt.alloc();
-    let rows = paris(alloc)?;
-    assert!(rt; have_one_width(&rows));
-    assert_eq!(rt; rows.len(), 1);
-    for (limit, answer) in [
-        (23, None),
-        (
-            22,
-            Some(BlockFault::SpillFull {
-                need: 23,
-                limit: 22,
-            }),
-        ),
-    ] {
+    let (need, limit) = (23, 22);
+    let full = Some(BlockFault::SpillFull { need, limit });
+    for (limit, answer, written) in [(23, None, PARIS.as_slice()), (22, full, &[])] {
         let spill = CalmSpill::new(alloc, 0, limit);
         let mut file = BlockFile::new(alloc, spill, 0, EntryForm::Spool);
-        assert_eq!(rt; file.put_spooled(alloc, &rows).err(), answer);
+        let put = put_spooled(alloc, &mut file, &rows_of(alloc, "paris")?)?;
+        assert_eq!(rt; put.err(), answer);
         let mut room = [0u8; 32];
-        let mut spill = file.into_file();
-        let count = spill.read_at(0, &mut room)?;
-        let written: &[u8] = if answer.is_some() { &[] } else { &PARIS };
-        assert_eq!(rt; count, written.len());
+        let count = file.into_file().read_at(0, &mut room)?;
         assert!(rt; count <= 32);
         assert_eq!(rt; &room[..count], written);
     }
     Ok(())
 }
+
+// The block of one entry of a join's file: the numbers 7 and 258, and the row of the number 1.
+const NUMBERED: [u8; 38] = [
+    0, 0, 0, 1, 0, 0, 0, 0, 0, 0, 0, 26, 0, 0, 0, 0, 0, 0, 0, 7, 0, 0, 0, 0, 0, 0, 1, 2, 1, 1, 0,
+    0, 0, 0, 0, 0, 0, 1,
+];
 
 #[test]
 fn numbers_stand_before_the_row(rt: HostRuntime) -> Result<(), Fail> {
@@ -152,131 +177,117 @@ fn numbers_stand_before_the_row(rt: HostRuntime) -> Result<(), Fail> {
     let mut entries = Entries::new(alloc);
     entries.push_row(alloc, 7, 258, &row_of(alloc, "1")?)?;
     let mut file = BlockFile::new(alloc, CalmSpill::new(alloc, 0, 1_000), 0, EntryForm::Join);
-    let _block = put(alloc, &mut file, &entries)?;
+    let _block = put(alloc, &mut file, &entries)??;
     let mut room = [0u8; 64];
     let count = file.into_file().read_at(0, &mut room)?;
-    let written = [
-        0, 0, 0, 1, 0, 0, 0, 0, 0, 0, 0, 26, 0, 0, 0, 0, 0, 0, 0, 7, 0, 0, 0, 0, 0, 0, 1, 2, 1, 1,
-        0, 0, 0, 0, 0, 0, 0, 1,
-    ];
     assert_eq!(rt; count, 38);
-    assert_eq!(rt; &room[..38], written.as_slice());
+    assert_eq!(rt; &room[..38], NUMBERED.as_slice());
     Ok(())
 }
 
-// Reads a block from each position that is a multiple of a step, so many entries at once.
-fn reads_in_rooms(
-    rt: &impl process::Abort,
+// Reads a block from its first entry on, so many entries at once, and tells how many of them are right.
+fn read_in_rooms<F: Spill>(
     alloc: Global,
-    file: &mut BlockFile<CalmSpill>,
+    file: &mut BlockFile<F>,
     block: BlockId,
     whole: &Entries,
     room: u32,
-) -> Result<(), Fail>
+) -> Result<usize, Fail>
     requires { block < length file.old.shapes }
-    ensures { file.new.shapes ≡ file.old.shapes }
 {
-    for step in 0..3_000u32 {
-        let from = step.saturating_mul(room);
+    let mut from = 0u32;
+    let mut same = 0usize;
+    for _ in 0..=whole.len() {
         let read = file.rows_of(alloc, block, from, room)?;
-        let left = whole.len().saturating_sub(from as usize);
-        assert_eq!(rt; read.len(), left.min(room as usize));
-        assert_eq!(rt; same_entries(&read, from as usize, whole), read.len());
-        if read.is_empty() {
-            return Ok(());
-        }
+        same = same.saturating_add(same_entries(&read, from as usize, whole));
+        from = from.saturating_add(room);
     }
-    Err(Fail::from("no end"))
+    Ok(same)
 }
 
+// The 300 entries take 31 bytes each beside their texts of 0 to 299 times three letters, which are 143,850 in all, and so
+// 2.2 pieces.
 #[test]
-fn entries_are_read_across_pieces(rt: HostRuntime) -> Result<(), Fail> {
+fn a_block_is_read_once_by_large_pieces(rt: HostRuntime) -> Result<(), Fail> {
     let alloc = rt.alloc();
-    let first = entries_from(alloc, 0, 1_000)?;
-    let second = entries_from(alloc, 5, 300)?;
-    let mut file = BlockFile::new(
-        alloc,
-        CalmSpill::new(alloc, 0, 1_000_000_000),
-        4,
-        EntryForm::Join,
-    );
-    let one = put(alloc, &mut file, &first)??;
-    let two = put(alloc, &mut file, &second)??;
-    for room in [1_000, 7, 1, 2_000] {
-        reads_in_rooms(&rt, alloc, &mut file, one, &first, room)?;
-        reads_in_rooms(&rt, alloc, &mut file, two, &second, room)?;
-    }
-    assert_eq!(rt; file.blocks(), 2);
-    assert_eq!(rt; file.number(), 4);
-    assert_eq!(rt; file.count(one), 1_000);
-    for from in [999u32, 3, 0, 500, 499, 1_000] {
-        let read = file.rows_of(alloc, one, from, 2)?;
-        assert_eq!(rt; same_entries(&read, from as usize, &first), read.len());
+    let entries = entries_of(alloc, 300)?;
+    for room in [300, 7, 1] {
+        let mut file = BlockFile::new(alloc, lying(alloc, 0, 0, 0), 4, EntryForm::Join);
+        let block = put(alloc, &mut file, &entries)??;
         assert_eq!(rt;
-            read.len(),
-            if from < 999 { 2 } else { 1_000 - from as usize }
+            (file.number(), file.blocks(), file.count(block)),
+            (4, 1, 300)
         );
+        let same = read_in_rooms(alloc, &mut file, block, &entries, room)?;
+        assert_eq!(rt; (same, file.into_file().reads), (300, 3));
     }
     Ok(())
 }
+
+// The block of the rows `paris` and `rome`: its head, 11 bytes from 12 on, and 10 from 23 on. Where a lie begins and ends,
+// its byte, and what is found.
+const LIES: [(u64, u64, u8, Option<u64>); 8] = [
+    (0, 0, 0, None),
+    (0, 4, 0, Some(0)),
+    (3, 4, 1, Some(1)),
+    (3, 4, 9, Some(9)),
+    (4, 12, 9, None),
+    (12, 13, 2, Some(0)),
+    (24, 25, 4, Some(1)),
+    (28, 29, 5, Some(1)),
+];
 
 #[test]
 fn a_file_that_lies_differs(rt: HostRuntime) -> Result<(), Fail> {
     let alloc = rt.alloc();
-    let rows = paris(alloc)?;
-    assert!(rt; have_one_width(&rows));
-    assert_eq!(rt; rows.len(), 1);
-    for (zeros, found) in [(0, None), (4, Some(0)), (15, Some(0)), (3, None)] {
-        let spill = LyingSpill {
-            inner: CalmSpill::new(alloc, 0, 100),
-            zeros,
-        };
+    for (start, end, byte, found) in LIES {
+        let spill = lying(alloc, start, end, byte);
         let mut file = BlockFile::new(alloc, spill, 0, EntryForm::Spool);
-        let block = file.put_spooled(alloc, &rows)?;
-        let answer = file.rows_of(alloc, block, 0, 5);
-        match found {
-            None => assert_eq!(rt; answer?.len(), 1),
-            Some(found) => assert_eq!(rt;
-                answer.err(),
-                Some(BlockFault::Differs { kept: 1, found })
-            ),
-        }
+        let block = put_spooled(alloc, &mut file, &rows_of(alloc, "paris\nrome")?)??;
+        let fault = file.rows_of(alloc, block, 0, 5).err();
+        let differs = found.map(|found| BlockFault::Differs { kept: 2, found });
+        assert_eq!(rt; fault, differs, "from {start} on");
     }
     Ok(())
+}
+
+// Whether the block reads as the entries, or why not.
+fn reads_as<F: Spill>(
+    alloc: Global,
+    file: &mut BlockFile<F>,
+    block: BlockId,
+    entries: &Entries,
+) -> Result<bool, BlockFault>
+    requires { block < length file.old.shapes }
+    ensures shapes { file.new.shapes ≡ file.old.shapes }
+    ensures form { file.new.form ≡ file.old.form }
+{
+    let read = file.rows_of(alloc, block, 0, 1_000)?;
+    Ok(same_entries(&read, 0, entries) == entries.len())
 }
 
 #[test]
 fn each_call_of_the_file_fails_once(rt: HostRuntime) -> Result<(), Fail> {
     let alloc = rt.alloc();
-    let entries = entries_from(alloc, 0, 400)?;
+    let entries = entries_of(alloc, 300)?;
     let script = SpillScript {
         file: 0,
         appends: vec![in alloc; 0, 2]?,
-        reads: vec![in alloc; 0, 1]?,
+        reads: vec![in alloc; 0, 2]?,
     };
-    let spill = MemSpill::new(alloc, 1_000_000_000, script);
+    let spill = MemSpill::new(alloc, 1_000_000, script);
     let mut file = BlockFile::new(alloc, spill, 0, EntryForm::Join);
-    assert_eq!(rt;
-        put(alloc, &mut file, &entries)?.err(),
-        Some(BlockFault::SpillFault)
-    );
+    let fault = Some(BlockFault::SpillFault);
+    assert_eq!(rt; put(alloc, &mut file, &entries)?.err(), fault);
     let block = put(alloc, &mut file, &entries)??;
-    assert_eq!(rt; file.blocks(), 1);
     for answer in [
-        Some(BlockFault::SpillFault),
-        Some(BlockFault::SpillFault),
-        None,
+        Err(BlockFault::SpillFault),
+        Err(BlockFault::SpillFault),
+        Ok(true),
     ] {
-        let read = file.rows_of(alloc, block, 0, 1_000);
-        assert_eq!(rt; read.as_ref().err().copied(), answer);
-        if let Ok(read) = read {
-            assert_eq!(rt; same_entries(&read, 0, &entries), 400);
-        }
+        assert_eq!(rt; reads_as(alloc, &mut file, block, &entries), answer);
     }
-    assert_eq!(rt;
-        put(alloc, &mut file, &entries)?.err(),
-        Some(BlockFault::SpillFault)
-    );
+    assert_eq!(rt; put(alloc, &mut file, &entries)?.err(), fault);
     assert_eq!(rt; file.blocks(), 1);
     Ok(())
 }

@@ -4,7 +4,7 @@ use Rattle.med_base.specs.Spills.{file_content}
 use Rattle.spill_blocks.specs.Places.{FailsFrom, ReadsFrom}
 use Rattle.spill_blocks.specs.Tables.{block_at, first_place, no_block}
 use Rattle.spill_blocks.specs.declared.table.Block.{Block}
-use Rattle.spill_blocks.proofs.GiveLaws.{gives_more, gives_none, inside_of, kept_is, many_of, opened, reached_last, refuses_from, refuses_open, wanted_of}
+use Rattle.spill_blocks.proofs.GiveLaws.{gives_more, gives_none, inside_of, kept_is, many_of, opened, reached_last, refuses_from, wanted_of}
 use Rattle.spill_blocks.proofs.PlaceLaws.{content_kept}
 use Rattle.spill_blocks.proofs.block_file.BlockFile.add_rows_of.Goals as goal
 
