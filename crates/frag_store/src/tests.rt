@@ -4,7 +4,7 @@ ghost use Rattle.std.specs.Prelude.{IfOk};
 ghost use Rattle.tuple_core.specs.Values.{FitsValue};
 
 use crate::Spool;
-use med_base::{CalmSpill, MemSpill, Spill, SpillScript};
+use med_base::{MemSpill, Spill, SpillScript};
 use row_pages::Rows;
 use spill_blocks::{BlockFault, BlockFile, EntryForm, have_one_width};
 use std::alloc::Global;
@@ -41,52 +41,39 @@ fn append<F: Spill>(
     Ok(spool.append(alloc, rows))
 }
 
-// How many of the rows are those of a list from a position on.
-fn same_rows(rows: &Rows, from: u64, whole: &Rows) -> usize {
-    let mut same = 0usize;
+// Whether the rows are so many of a list from a position on, or all that are left.
+fn is_part(rows: &Rows, from: u64, room: u32, whole: &Rows) -> bool {
+    let left = (whole.len() as u64).saturating_sub(from);
     let mut position = from as usize;
     for row in rows.iter() {
-        if let Some(other) = whole.get(position) {
-            if row == other {
-                same = same.saturating_add(1);
-            }
+        if whole.get(position) != Some(row) {
+            return false;
         }
         position = position.saturating_add(1);
     }
-    same
+    rows.len() as u64 == left.min(u64::from(room))
 }
 
-#[test]
-fn scans_give_what_was_appended(rt: HostRuntime) -> Result<(), Fail> {
-    let alloc = rt.alloc();
-    let whole = rows_from(alloc, 0, 70, 1)?;
-    let file = CalmSpill::new(alloc, 0, 1_000_000);
-    let mut spool = Spool::new(BlockFile::new(alloc, file, 0, EntryForm::Spool));
-    let mut first = 0u64;
-    for length in [1, 0, 39, 7, 23] {
-        append(alloc, &mut spool, &rows_from(alloc, first, length, 1)?)??;
-        first = first.wrapping_add(length);
-    }
-    assert_eq!(rt; spool.finish(), 70);
-    for room in [1, 3, 40, 500] {
-        for from in (0..=71u64).rev() {
-            let rows = spool.scan(alloc, from, room)?;
-            let left = 70u64.saturating_sub(from).min(u64::from(room));
-            assert_eq!(rt; rows.len() as u64, left, "from {from}");
-            assert_eq!(rt; same_rows(&rows, from, &whole), rows.len(), "from {from}");
+// From how many positions before one a scan gives the rows of a list.
+fn right_scans<F: Spill>(
+    alloc: Global,
+    spool: &mut Spool<F>,
+    end: u64,
+    room: u32,
+    whole: &Rows,
+) -> Result<u64, BlockFault> {
+    let mut right = 0u64;
+    for from in 0..end {
+        let rows = spool.scan(alloc, from, room)?;
+        if is_part(&rows, from, room, whole) {
+            right = right.saturating_add(1);
         }
     }
-    assert_eq!(rt; spool.into_file().blocks(), 4);
-    Ok(())
+    Ok(right)
 }
 
 // A spool whose file fails where its script says.
-fn scripted(
-    alloc: Global,
-    limit: u64,
-    appends: Vec<usize>,
-    reads: Vec<usize>,
-) -> Spool<MemSpill> {
+fn scripted(alloc: Global, limit: u64, appends: Vec<usize>, reads: Vec<usize>) -> Spool<MemSpill> {
     let script = SpillScript {
         file: 0,
         appends,
@@ -96,6 +83,36 @@ fn scripted(
     Spool::new(BlockFile::new(alloc, spill, 0, EntryForm::Spool))
 }
 
+// Appends so many rows of the list as each length says, one block after another.
+fn append_all<F: Spill>(
+    alloc: Global,
+    spool: &mut Spool<F>,
+    letters: usize,
+    lengths: &[u64],
+) -> Result<(), Fail> {
+    let mut first = 0u64;
+    for length in lengths {
+        let rows = rows_from(alloc, first, *length, letters)?;
+        append(alloc, spool, &rows)??;
+        first = first.saturating_add(*length);
+    }
+    Ok(())
+}
+
+#[test]
+fn scans_give_what_was_appended(rt: HostRuntime) -> Result<(), Fail> {
+    let alloc = rt.alloc();
+    let whole = rows_from(alloc, 0, 70, 1)?;
+    let mut spool = scripted(alloc, 1_000_000, Vec::new(alloc), Vec::new(alloc));
+    append_all(alloc, &mut spool, 1, &[1, 0, 39, 7, 23])?;
+    for room in [1, 3, 40, 500] {
+        assert_eq!(rt; right_scans(alloc, &mut spool, 72, room, &whole)?, 72);
+    }
+    assert_eq!(rt; spool.finish(), 70);
+    assert_eq!(rt; spool.into_file().blocks(), 4);
+    Ok(())
+}
+
 // Two rows of 10,000 letters make a block of 20,024 bytes, and seven blocks end in the third piece of the file. The fourth
 // read fails.
 #[test]
@@ -103,14 +120,10 @@ fn a_spool_that_is_scanned_in_order_is_read_once(rt: HostRuntime) -> Result<(), 
     let alloc = rt.alloc();
     let whole = rows_from(alloc, 0, 14, 10_000)?;
     let mut spool = scripted(alloc, 1_000_000, Vec::new(alloc), vec![in alloc; 3]?);
-    for block in 0..7u64 {
-        append(alloc, &mut spool, &rows_from(alloc, 2 * block, 2, 10_000)?)??;
+    append_all(alloc, &mut spool, 10_000, &[2, 2, 2, 2, 2, 2, 2])?;
+    for answer in [Ok(14), Err(BlockFault::SpillFault)] {
+        assert_eq!(rt; right_scans(alloc, &mut spool, 14, 1, &whole), answer);
     }
-    for from in 0..14u64 {
-        let rows = spool.scan(alloc, from, 1)?;
-        assert_eq!(rt; same_rows(&rows, from, &whole), 1, "from {from}");
-    }
-    assert_eq!(rt; spool.scan(alloc, 0, 1).err(), Some(BlockFault::SpillFault));
     Ok(())
 }
 
@@ -119,23 +132,16 @@ fn refusals_are_told(rt: HostRuntime) -> Result<(), Fail> {
     let alloc = rt.alloc();
     let rows = rows_from(alloc, 0, 3, 5)?;
     let mut spool = scripted(alloc, 48, vec![in alloc; 0]?, vec![in alloc; 0]?);
-    let answers = [
+    let (need, limit) = (45, 48);
+    for answer in [
         Err(BlockFault::SpillFault),
         Ok(()),
-        Err(BlockFault::SpillFull {
-            need: 45,
-            limit: 48,
-        }),
-    ];
-    for answer in answers {
+        Err(BlockFault::SpillFull { need, limit }),
+    ] {
         assert_eq!(rt; append(alloc, &mut spool, &rows)?, answer);
     }
-    assert_eq!(rt; spool.finish(), 3);
-    assert_eq!(rt; spool.scan(alloc, 0, 9).err(), Some(BlockFault::SpillFault));
-    assert_eq!(rt; spool.scan(alloc, 0, 9)?.len(), 3);
-    let file = CalmSpill::new(alloc, 0, 0);
-    let mut empty = Spool::new(BlockFile::new(alloc, file, 0, EntryForm::Spool));
-    append(alloc, &mut empty, &Rows::new(alloc))??;
-    assert_eq!(rt; empty.scan(alloc, 0, 5)?.len(), 0);
+    for answer in [Err(BlockFault::SpillFault), Ok(3)] {
+        assert_eq!(rt; right_scans(alloc, &mut spool, 3, 9, &rows), answer);
+    }
     Ok(())
 }
