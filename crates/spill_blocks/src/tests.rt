@@ -224,29 +224,32 @@ fn a_block_is_read_once_by_large_pieces(rt: HostRuntime) -> Result<(), Fail> {
     Ok(())
 }
 
-// The block of the rows `paris` and `rome`: its head, 11 bytes from 12 on, and 10 from 23 on. Where a lie begins and ends,
-// its byte, and what is found.
-const LIES: [(u64, u64, u8, Option<u64>); 8] = [
-    (0, 0, 0, None),
-    (0, 4, 0, Some(0)),
-    (3, 4, 1, Some(1)),
-    (3, 4, 9, Some(9)),
-    (4, 12, 9, None),
-    (12, 13, 2, Some(0)),
-    (24, 25, 4, Some(1)),
-    (28, 29, 5, Some(1)),
+// The rows of a block, where a lie begins and ends, its byte, and what is found. The block has its head, the 11 bytes of
+// `paris` from 12 on, and the 10 of `rome` from 23 on.
+const LIES: [(&str, u64, u64, u8, Option<u64>); 9] = [
+    ("paris", 0, 4, 0, Some(0)),
+    ("paris\nrome", 0, 0, 0, None),
+    ("paris\nrome", 0, 4, 0, Some(0)),
+    ("paris\nrome", 3, 4, 1, Some(1)),
+    ("paris\nrome", 3, 4, 9, Some(9)),
+    ("paris\nrome", 4, 12, 9, None),
+    ("paris\nrome", 12, 13, 2, Some(0)),
+    ("paris\nrome", 24, 25, 4, Some(1)),
+    ("paris\nrome", 28, 29, 5, Some(1)),
 ];
 
 #[test]
 fn a_file_that_lies_differs(rt: HostRuntime) -> Result<(), Fail> {
     let alloc = rt.alloc();
-    for (start, end, byte, found) in LIES {
+    for (lines, start, end, byte, found) in LIES {
+        let rows = rows_of(alloc, lines)?;
+        let kept = rows.len() as u64;
         let spill = lying(alloc, start, end, byte);
         let mut file = BlockFile::new(alloc, spill, 0, EntryForm::Spool);
-        let block = put_spooled(alloc, &mut file, &rows_of(alloc, "paris\nrome")?)??;
+        let block = put_spooled(alloc, &mut file, &rows)??;
         let fault = file.rows_of(alloc, block, 0, 5).err();
-        let differs = found.map(|found| BlockFault::Differs { kept: 2, found });
-        assert_eq!(rt; fault, differs, "from {start} on");
+        let differs = found.map(|found| BlockFault::Differs { kept, found });
+        assert_eq!(rt; fault, differs, "{lines} from {start} on");
     }
     Ok(())
 }
