@@ -1,20 +1,16 @@
 -- A scan goes from block to block over all rows.
-use Rattle.std.proofs.Common.{◌≡◌, ℕ, ◌+◌, ◌-◌, ◌<◌, ◌≤◌, min, max, List, [], ◌∷◌, ◌++◌, length, take, drop, map, get_or, Option, Some, None, option_map, refl, sym, ap, ap₂, subst, ◌∙◌, arith, append-nil, append_assoc, length-append, length-drop, length-take}
-use Rattle.std.specs.List.{All, flat_map, sum_by}
+use Rattle.std.proofs.Common.{◌≡◌, ℕ, ◌+◌, ◌-◌, ◌<◌, ◌≤◌, min, max, List, [], ◌∷◌, ◌++◌, length, take, drop, map, get_or, Option, Some, None, option_map, refl, sym, ap, ap₂, subst, ◌∙◌, arith, append-nil, length-append, length-drop}
+use Rattle.std.specs.List.{All}
 use Rattle.std.specs.Option.{IfSome}
-use Rattle.std.proofs.lemmas.List.{drop-append-le, drop-drop, drop-map, drop-take, drop_at, drop_more, get_or-map, get_or_past, length-map, map-append, take-append-drop, take-append-le, take-map, take-take, take_min, take_more}
+use Rattle.std.proofs.lemmas.List.{drop-append-le, drop-drop, drop-map, drop-take, drop_at, drop_more, get_or-map, length-map, map-append, take-append-drop, take-append-le, take-map, take-take, take_min}
 use Rattle.std.proofs.lemmas.List.Concat.{flat_map-append}
-use Rattle.std.proofs.lemmas.List.Elements.{All-append, All-map, All-nil, All-get_or}
-use Rattle.std.proofs.lemmas.List.Sums.{sum_by-append, sum_by-cons}
+use Rattle.std.proofs.lemmas.List.Elements.{All-append, All-map, All-get_or}
+use Rattle.std.proofs.lemmas.List.Sums.{sum_by-cons}
 use Rattle.tuple_core.specs.Values.{RowList, RowValues}
-use Rattle.spill_blocks.specs.Blocks.{AreWide, BlockShape, BlockState, FindsOther, GivesMore, GivesRows, OnlyReads, PutsBlock, RefusesRows, TellsShapes, entries_at, shape_at, shape_of}
+use Rattle.spill_blocks.specs.Blocks.{AreWide, BlockShape, BlockState, GivesMore, OnlyReads, PutsBlock, TellsShapes, entries_at, shape_at, shape_of}
 use Rattle.spill_blocks.specs.Entries.{row_kept, spooled}
 use Rattle.spill_blocks.specs.declared.entries.Kept.{Kept}
-use Rattle.frag_store.specs.Spools.{GivesPart, IsCursor, IsSpoolWide, RefusesScan, ScansPart, ScansRows, all_entries, count_of, shape_count, spooled_count, spooled_rows}
-use Rattle.spill_blocks.specs.declared.fault.BlockFault.{BlockFault}
-use Rattle.spill_blocks.specs.declared.fault.BlockFault.TheVariants.{SpillFault, SpillFull, Differs, NoMemory}
-use Rattle.spill_blocks.proofs.WindowLaws.{rose_later}
-use Rattle.med_base.specs.Spills.{told_content}
+use Rattle.frag_store.specs.Spools.{IsCursor, IsSpoolWide, ScansPart, ScansRows, all_entries, count_of, shape_count, spooled_count, spooled_rows}
 use Rattle.frag_store.specs.declared.spool.Cursor.{Cursor}
 
 -- ---- lists

@@ -1,5 +1,5 @@
 -- What a spool holds, and what its calls answer. Contracts see a spool as its file of blocks.
-use Rattle.std.specs.Prelude.{◌≡◌, ⊤, ℕ, ◌+◌, ◌-◌, ◌<◌, ◌≤◌, ◌^◌, min, All, List, [], ◌∷◌, ◌++◌, length, take, drop, map, Option, IfSome, option_map}
+use Rattle.std.specs.Prelude.{◌≡◌, ⊤, ℕ, ◌+◌, ◌-◌, ◌<◌, ◌≤◌, min, All, List, [], ◌∷◌, ◌++◌, length, take, drop, map, Option, IfSome, option_map}
 use Rattle.std.specs.List.{flat_map, sum_by}
 use Rattle.med_base.specs.Spills.{file_length}
 use Rattle.med_prelude.specs.Counts.{Rose}

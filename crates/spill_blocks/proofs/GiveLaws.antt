@@ -1,17 +1,17 @@
 -- What is read of a block are its entries, and where another number is found nothing is told.
-use Rattle.std.proofs.Common.{◌≡◌, ◌≢◌, ℕ, ◌+◌, ◌-◌, ◌<◌, ◌≤◌, min, List, [], ◌∷◌, ◌++◌, length, take, drop, map, get_or, Option, Some, None, option_map, refl, sym, ap, ap₂, subst, ◌∙◌, ◌⊎◌, inl, inr, arith, append-nil, length-drop, length-take}
+use Rattle.std.proofs.Common.{◌≡◌, ◌≢◌, ℕ, ◌+◌, ◌-◌, ◌<◌, ◌≤◌, min, List, [], length, take, drop, map, get_or, Option, Some, None, option_map, refl, sym, ap, subst, ◌∙◌, ◌⊎◌, inl, inr, arith, append-nil, length-drop, length-take}
 use Rattle.std.specs.List.{All}
 use Rattle.std.specs.Option.{IfSome}
 use Rattle.std.proofs.lemmas.List.{drop-drop, drop-take, get_or-map, get_or_default, length-map, nil_from_length, take_min}
 use Rattle.std.proofs.lemmas.List.Elements.{All-map, All-nil}
 use Rattle.med_base.specs.Spills.{FileState, file_content}
 use Rattle.med_prelude.specs.Texts.{Bytes, ToldBytes}
-use Rattle.spill_blocks.specs.Blocks.{AreWide, BlockState, FindsOther, FitsForm, GivesMore, GivesRows, RefusesRows, entries_at, shape_at}
+use Rattle.spill_blocks.specs.Blocks.{AreWide, BlockState, FindsOther, FitsForm, GivesMore, RefusesRows, entries_at, shape_at}
 use Rattle.tuple_core.specs.Values.{RowList, RowValues}
 use Rattle.spill_blocks.specs.Entries.{spooled}
-use Rattle.spill_blocks.specs.Places.{FailsFrom, FailsToOpen, IsRest, LacksHead, ReadsFrom, TooFewLie}
+use Rattle.spill_blocks.specs.Places.{FailsFrom, IsRest, ReadsFrom, TooFewLie}
 use Rattle.spill_blocks.specs.Reading.{LieAt}
-use Rattle.spill_blocks.specs.Tables.{IsBlock, IsKept, IsMark, IsPlaced, IsReached, IsTable, block_at, entries_of, first_place, no_block, shape_kept, told_entries}
+use Rattle.spill_blocks.specs.Tables.{IsBlock, IsKept, IsMark, IsReached, IsTable, block_at, entries_of, first_place, no_block, shape_kept, told_entries}
 use Rattle.spill_blocks.specs.Windows.{KeepsFile, Window}
 use Rattle.spill_blocks.specs.declared.entries.Kept.{Kept}
 use Rattle.spill_blocks.specs.declared.fault.BlockFault.{BlockFault}

@@ -1,11 +1,10 @@
 -- What lies in told content is what is read of it.
-use Rattle.std.proofs.Common.{◌≡◌, ℕ, zero, suc, ◌+◌, ◌-◌, ◌<◌, ◌≤◌, List, [], ◌∷◌, ◌++◌, length, take, drop, Some, None, refl, sym, ap, ap₂, subst, ◌∙◌, arith, append_assoc, length-append, length-drop, length-take}
-use Rattle.std.specs.List.{AllByRecursion}
+use Rattle.std.proofs.Common.{◌≡◌, ℕ, ◌+◌, ◌≤◌, List, ◌∷◌, ◌++◌, length, take, drop, None, refl, sym, ap, ◌∙◌, arith, append_assoc, length-append}
 use Rattle.std.proofs.lemmas.List.{take_at, drop_at, drop-append-le, drop-drop, take-append-drop, take-take}
 use Rattle.std.proofs.lemmas.Option.{none-some, same_Some}
 use Rattle.med_prelude.specs.Texts.{Bytes}
 use Rattle.spill_blocks.specs.Blocks.{entries_encoding, entry_encoding}
-use Rattle.spill_blocks.specs.Reading.{BeginsWith, IsEntry, LieAt, entries_in, entry_and_rest}
+use Rattle.spill_blocks.specs.Reading.{BeginsWith, LieAt, entries_in, entry_and_rest}
 use Rattle.spill_blocks.specs.declared.entries.Kept.{Kept}
 use Rattle.spill_blocks.specs.declared.form.EntryForm.{EntryForm}
 use Rattle.spill_blocks.proofs.ReadLaws.{entries_back, entry_back}

@@ -1,31 +1,25 @@
 -- Reading goes on from place to place.
-use Rattle.std.proofs.Common.{◌≡◌, ◌≢◌, ℕ, zero, suc, ◌+◌, ◌-◌, ◌<◌, ◌≤◌, ◌^◌, nat_le, true, false, min, max, List, [], ◌∷◌, ◌++◌, length, take, drop, get_or, Option, Some, None, option_map, Bool, inl, inr, refl, sym, ap, ap₂, subst, ◌∙◌, arith, append-nil, append_assoc, length-append, length-drop, length-take}
+use Rattle.std.proofs.Common.{◌≡◌, ℕ, ◌+◌, ◌-◌, ◌<◌, ◌≤◌, ◌^◌, nat_le, true, false, List, [], ◌∷◌, ◌++◌, length, take, drop, get_or, Some, None, option_map, Bool, inl, inr, refl, sym, ap, subst, ◌∙◌, arith, append-nil, append_assoc, length-append, length-take}
 use Rattle.std.specs.Bool.{MatchBool}
 use Rattle.std.specs.Int.{w32, to_be_bytes, from_be_bytes}
-use Rattle.std.specs.List.{All}
-use Rattle.std.specs.Option.{IfSome}
 use Rattle.std.proofs.lemmas.Bool.{cases_lt}
 use Rattle.std.proofs.lemmas.Bool.Decides.{nat_tests}
-use Rattle.std.proofs.lemmas.List.{drop-append-le, drop-drop, drop-take, drop_all, drop_more, take_more, take-take, length-take-le, nil_from_length}
+use Rattle.std.proofs.lemmas.List.{drop-append-le, drop_all, drop_more, take_more, take-take, length-take-le}
 use Rattle.std.proofs.lemmas.List.Elements.{All-nil, All-push}
 use Rattle.std.proofs.lemmas.Nat.{from_be_bytes-to_be_bytes_4}
-use Rattle.std.proofs.lemmas.Option.{none-some, same_Some}
-use Rattle.med_base.specs.Spills.{KeepsContent, file_content, told_content}
-use Rattle.med_prelude.specs.Texts.{Bytes, ToldBytes}
+use Rattle.std.proofs.lemmas.Option.{none-some}
+use Rattle.med_base.specs.Spills.{file_content, told_content}
+use Rattle.med_prelude.specs.Texts.{Bytes}
 use Rattle.tuple_core.specs.Decoding.{front_and_rest}
-use Rattle.spill_blocks.specs.Blocks.{AreWide, FitsForm, entry_encoding}
-use Rattle.spill_blocks.specs.Places.{FailsAt, FailsFrom, FailsToOpen, IsRest, LacksHead, NothingLies, ReadsFrom, TooFewLie, left_to_read}
+use Rattle.spill_blocks.specs.Blocks.{FitsForm, entry_encoding}
+use Rattle.spill_blocks.specs.Places.{IsRest, NothingLies, ReadsFrom}
 use Rattle.spill_blocks.specs.Reading.{BeginsWith, LieAt, entry_and_rest}
-use Rattle.spill_blocks.specs.Tables.{IsPlaced}
-use Rattle.spill_blocks.specs.Windows.{FailsToRead, HoldsAll, HoldsMore, IsHeld, KeepsFile, Window, held_from, least_piece}
+use Rattle.spill_blocks.specs.Windows.{HoldsAll, HoldsMore, IsHeld, KeepsFile, Window, held_from}
 use Rattle.spill_blocks.specs.declared.entries.Kept.{Kept}
-use Rattle.spill_blocks.specs.declared.fault.BlockFault.{BlockFault}
-use Rattle.spill_blocks.specs.declared.fault.BlockFault.TheVariants.{SpillFault, SpillFull, Differs, NoMemory}
 use Rattle.spill_blocks.specs.declared.seeking.Wanted.{Wanted}
-use Rattle.spill_blocks.specs.declared.table.Block.{Block}
 use Rattle.spill_blocks.specs.declared.table.Place.{Place}
 use Rattle.spill_blocks.proofs.LieLaws.{first_found, first_there, lie_on}
-use Rattle.spill_blocks.proofs.WindowLaws.{at_told, if_told, rose_later}
+use Rattle.spill_blocks.proofs.WindowLaws.{at_told, if_told}
 
 -- told content stays told
 pub content_kept : (u w : Window) → KeepsFile u w → file_content w.file ≡ file_content u.file
@@ -132,8 +126,6 @@ passes_one wanted w first before place entries held x r more low is parts = reco
       let on = rest_on wanted w content first place r.given held x r.later more (at_told (file_content w.file) content (λ bytes. IsRest wanted w.end bytes first place r.given) e r.told) (held_told w place.at held content is e) parts left lie enough in
       (on.0, none_given wanted.from first.next place.next r.given left low r.later on.1));
 }
-
--- ---- the measure
 
 -- ---- why reading stops
 

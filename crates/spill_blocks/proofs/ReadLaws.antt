@@ -1,8 +1,8 @@
 -- An entry is read back from its bytes, and what is read is an entry whose bytes these are.
-use Rattle.std.proofs.Common.{◌≡◌, ℕ, zero, suc, ◌+◌, ◌-◌, ◌==◌, ◌^◌, ◌<◌, ◌≤◌, nat_le, Bool, true, false, List, [], ◌∷◌, ◌++◌, length, get_or, take, drop, Option, Some, None, option_map, if◌then◌else◌, refl, sym, ap, ap₂, subst, ◌∙◌, arith, append_assoc, append-nil, inl, inr, lit<, Fits, length-append}
+use Rattle.std.proofs.Common.{◌≡◌, ℕ, ◌+◌, ◌==◌, ◌^◌, ◌<◌, ◌≤◌, nat_le, Bool, true, false, List, [], ◌∷◌, ◌++◌, length, get_or, take, drop, Option, Some, None, option_map, if◌then◌else◌, refl, sym, ap, ap₂, subst, ◌∙◌, arith, append_assoc, append-nil, inl, inr, lit<, Fits, length-append}
 use Rattle.std.specs.Int.{w64, w8, to_be_bytes, from_be_bytes}
-use Rattle.std.specs.List.{AllByRecursion, flat_map}
-use Rattle.std.specs.Option.{IfSome, MatchOption, option_map_or}
+use Rattle.std.specs.List.{AllByRecursion}
+use Rattle.std.specs.Option.{IfSome, option_map_or}
 use Rattle.std.proofs.lemmas.Bool.{cases_lt}
 use Rattle.std.proofs.lemmas.Bool.Decides.{nat_tests, Decides-eqb}
 use Rattle.std.proofs.lemmas.List.{take_at, drop_at, get_or-drop, get_or-take, get_or_past, take-append-drop, length-take, length-take-le}
@@ -15,9 +15,9 @@ use Rattle.tuple_core.specs.Decoding.{AreBytes, front_and_rest, row_and_rest, �
 use Rattle.tuple_core.specs.Encoded.{IsEncoding, row_of, values_read}
 use Rattle.tuple_core.specs.Encoding.{row_encoding}
 use Rattle.tuple_core.specs.Values.{FitsRow, RowValues}
-use Rattle.spill_blocks.specs.Blocks.{FitsForm, entries_encoding, entry_encoding}
+use Rattle.spill_blocks.specs.Blocks.{entries_encoding, entry_encoding}
 use Rattle.spill_blocks.specs.Entries.{kept_as, spooled}
-use Rattle.spill_blocks.specs.Reading.{BeginsWith, FitsKept, IsEntry, entries_in, entry_and_rest, number_and_rest, wide_row_and_rest}
+use Rattle.spill_blocks.specs.Reading.{BeginsWith, IsEntry, entries_in, entry_and_rest, number_and_rest, wide_row_and_rest}
 use Rattle.spill_blocks.specs.declared.entries.Kept.{Kept}
 use Rattle.spill_blocks.specs.declared.form.EntryForm.{EntryForm}
 use Rattle.spill_blocks.specs.declared.form.EntryForm.TheVariants.{Join, Spool}

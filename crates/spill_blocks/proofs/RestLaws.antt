@@ -1,12 +1,12 @@
 -- What is left behind a value, behind so many of them and behind a row.
-use Rattle.std.proofs.Common.{◌≡◌, ◌≢◌, ℕ, zero, suc, ◌+◌, ◌-◌, ◌==◌, ◌<◌, ◌≤◌, nat_le, Bool, true, false, List, [], ◌∷◌, ◌++◌, length, take, drop, Option, Some, None, option_map, if◌then◌else◌, refl, sym, ap, subst, ◌∙◌, arith, Fits, get_or, length-append}
+use Rattle.std.proofs.Common.{◌≡◌, ◌≢◌, ℕ, zero, suc, ◌+◌, ◌-◌, ◌==◌, ◌<◌, ◌≤◌, nat_le, Bool, true, false, [], ◌∷◌, ◌++◌, length, take, drop, Option, Some, None, option_map, if◌then◌else◌, refl, sym, ap, subst, ◌∙◌, arith, Fits, get_or, length-append}
 use Rattle.std.specs.Int.{w8}
 use Rattle.std.specs.Option.{option_and_then}
 use Rattle.std.proofs.lemmas.Bool.Decides.{nat_tests, Decides-eqb}
 use Rattle.std.proofs.lemmas.List.{take_at, drop_at}
 use Rattle.std.proofs.lemmas.Option.{none-some, same_Some}
 use Rattle.med_prelude.specs.Texts.{Bytes}
-use Rattle.tuple_core.specs.Decoding.{AreBytes, row_and_rest, value_and_rest, values_and_rest, ◌>>=◌}
+use Rattle.tuple_core.specs.Decoding.{row_and_rest, value_and_rest, values_and_rest, ◌>>=◌}
 use Rattle.tuple_core.specs.Encoded.{IsEncoding, row_of}
 use Rattle.tuple_core.specs.Encoding.{row_encoding}
 use Rattle.tuple_core.specs.Values.{FitsRow, RowValues, most_values}

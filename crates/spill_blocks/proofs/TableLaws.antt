@@ -1,26 +1,22 @@
 -- The table of blocks stays true, whatever is put or read.
-use Rattle.std.proofs.Common.{◌≡◌, ◌≢◌, ℕ, zero, suc, ◌+◌, ◌-◌, ◌<◌, ◌≤◌, ◌^◌, min, List, [], ◌∷◌, ◌++◌, length, take, drop, map, get_or, Option, Some, None, option_map, refl, sym, ap, ap₂, subst, ◌∙◌, arith, append-nil, append_assoc, length-append, length-drop, length-take}
+use Rattle.std.proofs.Common.{◌≡◌, ℕ, ◌+◌, ◌<◌, ◌≤◌, ◌^◌, List, [], ◌∷◌, ◌++◌, length, take, drop, map, get_or, Option, Some, None, option_map, refl, sym, ap, ap₂, subst, ◌∙◌, arith, append-nil, append_assoc, length-append, length-drop}
 use Rattle.std.specs.Int.{w32, w64, to_be_bytes}
 use Rattle.std.specs.List.{All, AllByRecursion}
 use Rattle.std.specs.Option.{IfSome}
-use Rattle.std.proofs.lemmas.List.{drop-append-le, drop-drop, drop-take, drop_all, drop_at, get_or-map, get_or_append_left, get_or_default, length-map, map-append, nil_from_length, take-append-le, take_at, take_min}
+use Rattle.std.proofs.lemmas.List.{drop-append-le, drop-drop, drop_all, drop_at, get_or-map, get_or_append_left, length-map, map-append, take-append-le, take_at}
 use Rattle.std.proofs.lemmas.List.Elements.{All-head, All-nil, All-push, All-tail, All-weaker, recursion_from_All}
-use Rattle.std.proofs.lemmas.Option.{none-some, same_Some}
 use Rattle.med_base.specs.Spills.{AppendsBytes, FileState, file_content, file_length}
 use Rattle.med_prelude.specs.Texts.{Bytes, ToldBytes, told_with}
-use Rattle.spill_blocks.specs.Blocks.{AreWide, BlockShape, BlockState, FindsOther, FitsForm, GivesMore, GivesRows, HaveOneWidth, PutsBlock, TellsShapes, block_encoding, entries_at, entries_encoding, shape_at, shape_of, width_of}
-use Rattle.spill_blocks.specs.Places.{FailsFrom, IsRest, LacksHead, ReadsFrom, TooFewLie}
+use Rattle.spill_blocks.specs.Blocks.{AreWide, BlockState, FitsForm, HaveOneWidth, PutsBlock, block_encoding, entries_encoding, shape_of, width_of}
 use Rattle.spill_blocks.specs.Reading.{FitsKept, IsEntry, LieAt, entries_in}
-use Rattle.spill_blocks.specs.Tables.{IsBlock, IsKept, IsMark, IsPlaced, IsReached, IsTable, block_at, entries_of, first_entry, first_place, no_block, shape_kept, told_entries}
-use Rattle.spill_blocks.specs.Windows.{KeepsFile, Window}
+use Rattle.spill_blocks.specs.Tables.{IsBlock, IsKept, IsMark, IsPlaced, IsReached, IsTable, block_at, entries_of, first_entry, no_block, shape_kept, told_entries}
 use Rattle.spill_blocks.specs.declared.entries.Kept.{Kept}
 use Rattle.spill_blocks.specs.declared.form.EntryForm.{EntryForm}
-use Rattle.spill_blocks.specs.declared.seeking.Wanted.{Wanted}
 use Rattle.spill_blocks.specs.declared.table.Block.{Block}
 use Rattle.spill_blocks.specs.declared.table.Mark.{Mark}
 use Rattle.spill_blocks.specs.declared.table.Place.{Place}
 use Rattle.spill_blocks.proofs.LieLaws.{lie_grows, lie_reads}
-use Rattle.spill_blocks.proofs.ReadLaws.{entries_back, entries_take}
+use Rattle.spill_blocks.proofs.ReadLaws.{entries_take}
 use Rattle.spill_blocks.proofs.WindowLaws.{at_told, content_long, grown, if_told}
 
 -- ---- content that grows

@@ -1,16 +1,14 @@
--- The piece that is held is told content, whatever is appended or read.
-use Rattle.std.proofs.Common.{◌≡◌, ℕ, ◌+◌, ◌-◌, ◌*◌, ◌<◌, ◌≤◌, ◌^◌, nat_le, Bool, true, false, cond, min, max, List, [], ◌∷◌, ◌++◌, length, take, drop, Option, Some, None, Result, Ok, Err, ◌⊎◌, inl, inr, refl, sym, ap, ap₂, subst, ◌∙◌, arith, length-append, length-drop, length-take}
+-- Told content, and what is held of it.
+use Rattle.std.proofs.Common.{◌≡◌, ℕ, ◌+◌, ◌-◌, ◌<◌, ◌≤◌, nat_le, Bool, true, false, cond, min, [], ◌++◌, length, take, drop, Some, None, ◌⊎◌, inl, inr, refl, sym, ap, ap₂, subst, ◌∙◌, arith, length-drop}
 use Rattle.std.specs.Option.{IfSome}
 use Rattle.std.proofs.lemmas.Bool.{cases_lt}
 use Rattle.std.proofs.lemmas.Bool.Decides.{nat_tests}
-use Rattle.std.proofs.lemmas.List.{drop-append-le, drop-drop, drop-take, drop_all, take-append-le, take_all, length-take-le}
+use Rattle.std.proofs.lemmas.List.{drop-drop, drop-take, drop_all}
 use Rattle.std.proofs.lemmas.Option.{none-some, same_Some}
-use Rattle.med_base.specs.Spills.{AnswersAppend, AnswersRead, AppendsBytes, Content, FailsToAppend, FileState, FillsRoom, IsFull, IsSameFile, KeepsContent, ReadsContent, TellsBytes, TellsLength, content_length, file_content, file_length, told_content}
-use Rattle.med_base.specs.declared.outside.spill.SpillFault.TheVariants as spill
-use Rattle.med_base.specs.declared.outside.spill.SpillFault as declared_fault
+use Rattle.med_base.specs.Spills.{Content, FileState, TellsBytes, TellsLength, content_length, file_content, file_length, told_content}
 use Rattle.med_prelude.specs.Counts.{Rose}
 use Rattle.med_prelude.specs.Texts.{Bytes, ToldBytes, told_with}
-use Rattle.spill_blocks.specs.Windows.{FailsToRead, HoldsAll, HoldsMore, IsHeld, IsWindow, KeepsFile, Window, block_fault, held_from, least_piece}
+use Rattle.spill_blocks.specs.Windows.{IsHeld, IsWindow, KeepsFile, Window, held_from}
 
 -- ---- told content
 
@@ -42,8 +40,6 @@ grown (Some before) more content e = (before, refl, sym (same_Some (before ++ mo
 
 pub rose_later : (first later last : ℕ) → first ≤ later → Rose later last → Rose first last
 rose_later first later last up rose = omega (arith, rose)
-
--- ---- the window
 
 -- ---- what is held
 
@@ -94,7 +90,7 @@ holds_behind w at bytes is after e = go (cases_lt (at - w.start) (length w.piece
     go (inl within) = let least : min (at - w.start) (length w.piece) ≡ at - w.start = omega arith in subst (IsHeld w at) (sym (e ∙ ap (λ n. drop n w.piece) least)) (holds_some w at is after (omega (arith, within)))
     go (inr past) = let least : min (at - w.start) (length w.piece) ≡ length w.piece = omega arith in subst (IsHeld w at) (sym (e ∙ ap (λ n. drop n w.piece) least ∙ drop_all (length w.piece) w.piece (omega arith))) (holds_past w at is after past)
 
--- ---- a read
+-- ---- a file that stays
 
 pub keeps_file : (w : Window) → KeepsFile w w
 keeps_file w = record { file = record { content = refl; past_end = refl; same = record { number = refl; limit = refl; faults = omega arith } }; end = refl }

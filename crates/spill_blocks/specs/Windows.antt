@@ -1,5 +1,5 @@
 -- A spill file with the piece of it that was read last.
-use Rattle.std.specs.Prelude.{◌≡◌, ◌⊎◌, ⊤, ℕ, ◌+◌, ◌-◌, ◌*◌, ◌<◌, ◌≤◌, ◌^◌, nat_le, min, max, List, [], length, take, drop, IfSome, if◌then◌else◌}
+use Rattle.std.specs.Prelude.{◌≡◌, ⊤, ℕ, ◌+◌, ◌-◌, ◌*◌, ◌<◌, ◌≤◌, ◌^◌, nat_le, min, max, [], length, take, drop, IfSome, if◌then◌else◌}
 use Rattle.med_base.specs.Spills.{FileState, KeepsContent, file_content, file_length}
 use Rattle.med_prelude.specs.Counts.{Rose}
 use Rattle.med_prelude.specs.Texts.{Bytes}

@@ -1,6 +1,6 @@
 //! What no clause says: that each call gives an answer, a block's bytes by hand, a file that lies, and how often it is read.
 
-ghost use Rattle.std.specs.Prelude.{◌≡◌, ◌<◌, ◌≤◌, ◌^◌, [], IfOk, OnOk, length};
+ghost use Rattle.std.specs.Prelude.{◌≡◌, ◌<◌, [], IfOk, length};
 ghost use Rattle.med_base.specs.Spills.{TellsLength, file_length};
 ghost use Rattle.spill_blocks.specs.declared.form.EntryForm.TheVariants as form;
 ghost use Rattle.tuple_core.specs.Values.{FitsValue};

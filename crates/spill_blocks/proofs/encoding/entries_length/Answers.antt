@@ -1,4 +1,4 @@
-use Rattle.std.proofs.Common.{◌≡◌, ap, ◌∙◌, sym, length, take, arith, length-append}
+use Rattle.std.proofs.Common.{ap, length, take, arith, length-append}
 use Rattle.spill_blocks.specs.Blocks.{entries_encoding, entry_encoding}
 use Rattle.spill_blocks.specs.Listings.{listed}
 use Rattle.spill_blocks.specs.Reading.{FitsKept}

@@ -1,4 +1,4 @@
-use Rattle.std.proofs.Common.{◌≡◌, ◌++◌, ap, ◌∙◌, sym, take, append_assoc}
+use Rattle.std.proofs.Common.{◌++◌, ap, ◌∙◌, sym, take, append_assoc}
 use Rattle.spill_blocks.specs.Blocks.{entries_encoding, entry_encoding}
 use Rattle.spill_blocks.specs.Listings.{listed}
 use Rattle.spill_blocks.proofs.ListLaws.{encoding_more}

@@ -1,6 +1,6 @@
-use Rattle.std.proofs.Common.{◌≡◌, ◌-◌, ◌∙◌, ap, ap₂, drop, length, sym, take, Some, arith}
+use Rattle.std.proofs.Common.{◌∙◌, ap, ap₂, Some}
 use Rattle.tuple_core.specs.Encoded.{row_of}
-use Rattle.spill_blocks.proofs.RestLaws.{IsWideRow, front_encodes, front_read, is_wide_row, shorter}
+use Rattle.spill_blocks.proofs.RestLaws.{front_encodes, front_read, is_wide_row, shorter}
 use Rattle.spill_blocks.proofs.reading.first_row.Goals as goal
 
 pub overflow_sub-bytes : goal.overflow_sub-bytes

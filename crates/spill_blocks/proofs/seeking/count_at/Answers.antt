@@ -1,4 +1,4 @@
-use Rattle.std.proofs.Common.{◌≡◌, ◌≤◌, ◌∙◌, ap, drop, length, sym, take, ℕ, Some, IfOk, ◌<◌, ◌^◌, arith}
+use Rattle.std.proofs.Common.{◌≡◌, ◌≤◌, ◌∙◌, ap, drop, length, take, ℕ, Some, ◌<◌, ◌^◌, arith}
 use Rattle.std.specs.Int.{w32, to_be_bytes}
 use Rattle.med_base.specs.Spills.{file_content}
 use Rattle.spill_blocks.proofs.PlaceLaws.{content_kept, count_found, held_count, held_told, loaded_long}

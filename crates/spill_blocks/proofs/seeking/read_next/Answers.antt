@@ -1,4 +1,4 @@
-use Rattle.std.proofs.Common.{◌≡◌, ◌∙◌, ap, length, sym, arith, length-append}
+use Rattle.std.proofs.Common.{ap, length, arith, length-append}
 use Rattle.spill_blocks.specs.Blocks.{entry_encoding}
 use Rattle.spill_blocks.proofs.PlaceLaws.{holds_all, nothing_lies, passes_one, reads_one}
 use Rattle.spill_blocks.proofs.seeking.read_next.Goals as goal

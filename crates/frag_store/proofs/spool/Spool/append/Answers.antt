@@ -1,4 +1,3 @@
-use Rattle.spill_blocks.specs.declared.form.EntryForm.TheVariants as form
 use Rattle.frag_store.proofs.ScanLaws.{rows_put}
 use Rattle.frag_store.proofs.spool.Spool.append.Goals as goal
 

@@ -1,4 +1,4 @@
-use Rattle.std.proofs.Common.{◌≡◌, ap, ◌∙◌, sym, subst, arith}
+use Rattle.std.proofs.Common.{ap, subst, arith}
 use Rattle.spill_blocks.specs.Blocks.{BlockState, TellsShapes}
 use Rattle.frag_store.specs.Spools.{spooled_count}
 use Rattle.frag_store.proofs.ScanLaws.{part_kept, reads_on, scanned_more, scans_rows}

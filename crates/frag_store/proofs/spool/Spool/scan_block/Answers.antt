@@ -1,7 +1,7 @@
 use Rattle.std.proofs.Common.{◌≡◌, ◌-◌, ap, ◌∙◌, subst, arith}
 use Rattle.std.proofs.lemmas.Result.{on_ok_weaker}
-use Rattle.spill_blocks.specs.Blocks.{BlockState, GivesMore, shape_at}
-use Rattle.frag_store.specs.Spools.{ScansPart, spooled_count}
+use Rattle.spill_blocks.specs.Blocks.{GivesMore, shape_at}
+use Rattle.frag_store.specs.Spools.{spooled_count}
 use Rattle.frag_store.proofs.ScanLaws.{gives_part}
 use Rattle.frag_store.proofs.spool.Spool.scan_block.Goals as goal
 

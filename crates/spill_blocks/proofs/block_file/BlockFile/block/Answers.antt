@@ -1,5 +1,4 @@
-use Rattle.std.proofs.Common.{arith, rules}
-use Rattle.std.proofs.lemmas.Grind.{common_steps}
+use Rattle.std.proofs.Common.{arith}
 use Rattle.spill_blocks.proofs.block_file.BlockFile.block.Goals as goal
 
 pub overflow_cast-result : goal.overflow_cast-result

@@ -1,6 +1,4 @@
-use Rattle.std.proofs.Common.{subst}
 use Rattle.med_base.specs.Spills.{file_content}
-use Rattle.spill_blocks.specs.Blocks.{TellsShapes}
 use Rattle.spill_blocks.proofs.TableLaws.{tells_shapes}
 use Rattle.spill_blocks.proofs.block_file.BlockFile.blocks.Goals as goal
 

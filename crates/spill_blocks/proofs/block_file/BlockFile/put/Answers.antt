@@ -1,8 +1,7 @@
 use Rattle.std.proofs.Common.{◌≡◌, ◌++◌, ◌∷◌, [], ◌∙◌, All, ap, ap₂, sym, subst, arith, length}
 use Rattle.spill_blocks.specs.Blocks.{BlockState, FitsForm}
 use Rattle.spill_blocks.specs.Listings.{listed}
-use Rattle.spill_blocks.specs.declared.table.Block.{Block}
-use Rattle.spill_blocks.proofs.TableLaws.{are_entries, block_put, kept_put, puts_block}
+use Rattle.spill_blocks.proofs.TableLaws.{are_entries, kept_put, puts_block}
 use Rattle.spill_blocks.proofs.block_file.BlockFile.put.Goals as goal
 
 pub invariant_of-self-in-Ok : goal.invariant_of-self-in-Ok

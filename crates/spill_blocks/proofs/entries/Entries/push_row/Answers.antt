@@ -1,4 +1,4 @@
-use Rattle.std.proofs.Common.{◌≡◌, ◌++◌, ◌∷◌, [], ap, ap₂, ◌∙◌}
+use Rattle.std.proofs.Common.{◌++◌, ◌∷◌, [], ap, ap₂, ◌∙◌}
 use Rattle.spill_blocks.specs.Entries.{kept_list}
 use Rattle.spill_blocks.specs.declared.entries.Numbers.{Numbers}
 use Rattle.spill_blocks.proofs.EntryLaws.{kept_push}
