@@ -1,0 +1,8 @@
+use Rattle.std.proofs.Common.{◌≡◌, ℕ, ◌+◌, ◌-◌, ◌≤◌, List, [], ◌∷◌, ◌++◌, drop, map, take}
+use Rattle.std.specs.List.{filter_map}
+use Rattle.plan_checker.specs.Places.{place_of}
+use Rattle.plan_checker.proofs.places.places.Given as goal
+
+-- the places so far stand before those of the comparisons that are left
+abbrev pub invariant-loop-comparison : goal.invariant-loop-comparison
+invariant-loop-comparison l = l.found ++ filter_map (place_of l.atoms l.sites) (drop l.comparison-index l.comparison-items) ≡ filter_map (place_of l.atoms l.sites) l.comparison-items

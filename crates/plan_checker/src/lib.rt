@@ -1,0 +1,22 @@
+//! The checker of plans: whether a plan covers a query, and where each comparison is tested.
+//!
+//! `check_plan` takes a query, its catalogue and a plan, and gives a `Checked`, or a `PlanFault`: the number of the first
+//! check that the plan breaks, with the least part and item that break it. What is found of a plan is `checked_of` in
+//! `specs/Checking.antt`. A plan that names no fragment gets one first (`specs/Filling.antt`).
+//!
+//! Definitions: `specs/Uses.antt`, the checks; `specs/Places.antt`, where comparisons are tested.
+#![tactic(auto)]
+
+mod checking;
+mod filling;
+mod laws;
+mod misused;
+mod places;
+#[cfg(test)]
+mod tests;
+mod unknown;
+mod uses;
+mod walking;
+
+pub use checking::{Checked, check_plan};
+pub use laws::{default_is_accepted, tops_cover_fragments};
