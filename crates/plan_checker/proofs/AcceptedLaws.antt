@@ -25,7 +25,7 @@ neither true b e = absurd (true≢false e)
 neither false b e = (refl, e)
 
 -- a number that isn't one of those is seen so from either side
-flipped : (n : ℕ) (ns : List ℕ) → list_any (nat_eq n) ns ≡ names ns n
+pub flipped : (n : ℕ) (ns : List ℕ) → list_any (nat_eq n) ns ≡ names ns n
 flipped n [] = refl
 flipped n (m ∷ ns) = ap (λ b. b || list_any (nat_eq n) ns) (nat_eq_sym n m) ∙ ap (λ b. (m == n) || b) (flipped n ns)
 
@@ -71,17 +71,17 @@ none_counted n (m ∷ ns) e =
 -- a number that isn't known isn't used
 unused : (known used : List ℕ) (n : ℕ) → list_all (names known) used ≡ true → names known n ≡ false → names used n ≡ false
 unused known [] n all e = refl
-unused known (m ∷ used) n all e = by (names known m) (m == n) refl refl all
+unused known (m ∷ used) n all e = by (names known m) (m == n) refl refl (λ h. unused known used n h e) all
   where
-    by : (a b : Bool) → names known m ≡ a → (m == n) ≡ b → (a && list_all (names known) used) ≡ true → (b || names used n) ≡ false
-    by false b f g h = absurd (true≢false (sym h))
-    by true true f g h = absurd (true≢false (sym f ∙ ap (names known) (eqb-true m n g) ∙ e))
-    by true false f g h = unused known used n h e
+    by : (a b : Bool) → names known m ≡ a → (m == n) ≡ b → (list_all (names known) used ≡ true → names used n ≡ false) → (a && list_all (names known) used) ≡ true → (b || names used n) ≡ false
+    by false b f g more h = absurd (true≢false (sym h))
+    by true true f g more h = absurd (true≢false (sym f ∙ ap (names known) (eqb-true m n g) ∙ e))
+    by true false f g more h = more h
 
 abbrev last_count : ℕ → List ℕ → ℕ
 last_count n ns = cond (last_of ns == n) 1 0
 
-last_named : (m : ℕ) (ns : List ℕ) → names (m ∷ ns) (last_of (m ∷ ns)) ≡ true
+pub last_named : (m : ℕ) (ns : List ℕ) → names (m ∷ ns) (last_of (m ∷ ns)) ≡ true
 last_named m [] = rw (nat_eq_self m) refl
 last_named m (n ∷ ns) = by (m == last_of (n ∷ ns)) (last_named n ns)
   where
@@ -106,17 +106,17 @@ once used n m [] distinct wants e = by (m == n) refl e
         let same : m ≡ n = eqb-true m n f in
         let used_up : count_of n used ≡ 0 = ap (λ k. count_of k used) (sym same) ∙ wants.0 in
         (ap (λ b. count_of n used + cond b 1 0) f ∙ omega (arith, used_up), ap (λ b. cond b 1 0 + 0) f)
-once used n m (k ∷ ns) distinct wants e = by (m == n) refl e
+once used n m (k ∷ ns) distinct wants e = by (m == n) refl (λ h. once used n k ns distinct.1 wants.1 h) e
   where
-    by : (b : Bool) → (m == n) ≡ b → (b || names (k ∷ ns) n) ≡ true → (count_of n used + last_count n (m ∷ k ∷ ns) ≡ 1) × (count_of n (m ∷ k ∷ ns) ≡ 1)
-    by true f h =
+    by : (b : Bool) → (m == n) ≡ b → (names (k ∷ ns) n ≡ true → (count_of n used + last_count n (k ∷ ns) ≡ 1) × (count_of n (k ∷ ns) ≡ 1)) → (b || names (k ∷ ns) n) ≡ true → (count_of n used + last_count n (m ∷ k ∷ ns) ≡ 1) × (count_of n (m ∷ k ∷ ns) ≡ 1)
+    by true f more h =
         let same : m ≡ n = eqb-true m n f in
         let used_once : count_of n used ≡ 1 = ap (λ i. count_of i used) (sym same) ∙ wants.0 in
         let absent : names (k ∷ ns) n ≡ false = ap (names (k ∷ ns)) (sym same) ∙ distinct.0 in
         let none : count_of n (k ∷ ns) ≡ 0 = none_counted n (k ∷ ns) absent in
         (ap (λ b. count_of n used + cond b 1 0) (last_apart n k ns absent) ∙ omega (arith, used_once), ap (λ b. cond b 1 0 + count_of n (k ∷ ns)) f ∙ omega (arith, none))
-    by false f h =
-        let later = once used n k ns distinct.1 wants.1 h in
+    by false f more h =
+        let later = more h in
         (later.0, ap (λ b. cond b 1 0 + count_of n (k ∷ ns)) f ∙ omega (arith, later.1))
 
 -- each number is used once but the last
@@ -141,30 +141,28 @@ at_least c e h = grind (arith, nat_tests)
 
 counts : (used : List ℕ) (first count n : ℕ) (i : ℕ) → indices_where (is_missing used) i (numbers_from first count) ≡ [] → indices_where (is_used_twice used) i (numbers_from first count) ≡ [] → first ≤ n → n < first + count → count_of n used ≡ 1
 counts used first zero n i e h low high = absurd (omega (arith, low, high))
-counts used first (suc count) n i e h low high = by (first == n) refl
+counts used first (suc count) n i e h low high = by (first == n) refl (λ other. counts used (suc first) count n (i + 1) (rest_empty (broken_if (is_missing used first) i) _ e) (rest_empty (broken_if (is_used_twice used first) i) _ h) other (omega (arith, high)))
   where
     here : count_of first used ≡ 1
     here = at_least (count_of first used) (not_broken (is_missing used first) i (first_empty (broken_if (is_missing used first) i) _ e)) (not_broken (is_used_twice used first) i (first_empty (broken_if (is_used_twice used first) i) _ h))
 
-    by : (b : Bool) → (first == n) ≡ b → count_of n used ≡ 1
-    by true f = ap (λ k. count_of k used) (sym (eqb-true first n f)) ∙ here
-    by false f =
-        let other : suc first ≤ n = grind (arith, nat_tests, low, f) in
-        counts used (suc first) count n (i + 1) (rest_empty (broken_if (is_missing used first) i) _ e) (rest_empty (broken_if (is_used_twice used first) i) _ h) other (omega (arith, high))
+    by : (b : Bool) → (first == n) ≡ b → (suc first ≤ n → count_of n used ≡ 1) → count_of n used ≡ 1
+    by true f more = ap (λ k. count_of k used) (sym (eqb-true first n f)) ∙ here
+    by false f more = more (grind (arith, nat_tests, low, f))
 
 none_out : (atoms : ℕ) (used : List ℕ) (n : ℕ) → list_all (is_atom atoms) used ≡ true → is_atom atoms n ≡ false → count_of n used ≡ 0
 none_out atoms [] n all e = refl
-none_out atoms (m ∷ used) n all e = by (is_atom atoms m) (m == n) refl refl all
+none_out atoms (m ∷ used) n all e = by (is_atom atoms m) (m == n) refl refl (λ h. none_out atoms used n h e) all
   where
-    by : (a b : Bool) → is_atom atoms m ≡ a → (m == n) ≡ b → (a && list_all (is_atom atoms) used) ≡ true → cond b 1 0 + count_of n used ≡ 0
-    by false b f g h = absurd (true≢false (sym h))
-    by true true f g h = absurd (true≢false (sym f ∙ ap (is_atom atoms) (eqb-true m n g) ∙ e))
-    by true false f g h = let rest = none_out atoms used n h e in omega (arith, rest)
+    by : (a b : Bool) → is_atom atoms m ≡ a → (m == n) ≡ b → (list_all (is_atom atoms) used ≡ true → count_of n used ≡ 0) → (a && list_all (is_atom atoms) used) ≡ true → cond b 1 0 + count_of n used ≡ 0
+    by false b f g more h = absurd (true≢false (sym h))
+    by true true f g more h = absurd (true≢false (sym f ∙ ap (is_atom atoms) (eqb-true m n g) ∙ e))
+    by true false f g more h = let rest = more h in omega (arith, rest)
 
 in_range : (atoms n : ℕ) → is_atom atoms n ≡ true → (1 ≤ n) × (n < 1 + atoms)
 in_range atoms n e = grind (arith, nat_tests, e)
 
-none_below : (n first count : ℕ) → n < first → count_of n (numbers_from first count) ≡ 0
+pub none_below : (n first count : ℕ) → n < first → count_of n (numbers_from first count) ≡ 0
 none_below n first zero h = refl
 none_below n first (suc count) h = count_of_other n first (numbers_from (suc first) count) (λ e. omega (arith, e, h)) ∙ none_below n (suc first) count (omega (arith, h))
 

@@ -1,5 +1,5 @@
 -- A plan that breaks no check covers its query.
-use Rattle.std.proofs.Common.{◌≡◌, ℕ, suc, ◌+◌, ◌&&◌, not, Bool, true, false, List, [], ◌∷◌, ◌++◌, filter, map, length, take, Option, Some, None, append_assoc, append-nil, arith, refl, sym, ap, subst, ◌∙◌, true≢false}
+use Rattle.std.proofs.Common.{◌≡◌, ℕ, suc, ◌+◌, ◌&&◌, not, Bool, true, false, List, [], ◌∷◌, ◌++◌, filter, flat_map, map, length, take, Option, Some, None, append_assoc, append-nil, length-append, arith, refl, sym, ap, subst, ◌∙◌, true≢false}
 use Rattle.std.specs.Prelude.{nat_eq}
 use Rattle.std.specs.List.{AllByRecursion, cons_option, filter_map, list_all}
 use Rattle.std.proofs.lemmas.List.Elements.{filter_map-append}
@@ -21,17 +21,18 @@ use Rattle.text_reading.proofs.CheckLaws as checks
 use Rattle.text_reading.proofs.FaultLaws.{first_empty, map_empty, none_broken, not_broken, rest_empty}
 use Rattle.plan_reader.specs.Items.{doubled}
 use Rattle.plan_reader.specs.Locations.{in_part, is_up_to, location, location_order}
-use Rattle.plan_reader.specs.Own.{own_name, rule_name, where_named_twice}
+use Rattle.plan_reader.specs.Own.{own_joins, own_name, rule_name, where_joined_twice, where_named_twice}
 use Rattle.plan_reader.specs.Words.{same_text}
 use Rattle.plan_reader.specs.declared.plan.Fragment.{Fragment}
 use Rattle.plan_reader.specs.declared.plan.Plan.{Plan}
 use Rattle.plan_checker.specs.Checking.{checks_of}
 use Rattle.plan_checker.specs.Covers.{CoversQuery, IsMade, is_own, last_of, made_after, whole_tree}
-use Rattle.plan_checker.specs.Places.{atom_site, site}
+use Rattle.plan_checker.specs.Places.{all_join_sites, atom_site, site, sites}
 use Rattle.plan_checker.specs.Uses.{atom_numbers, atom_of, atoms_used, early_from, fragment_of, fragments_named, fragments_used, is_atom, is_early, is_missing, is_unknown_group, is_unknown_join, is_used_twice, joins_used, misused_from, names_known, names_unknown, nodes_in, numbers_of, where_early, where_missing, where_misused, where_unknown, where_used_twice}
-use Rattle.plan_checker.proofs.AcceptedLaws.{all_used, as_wanted, each_atom, names_apart}
+use Rattle.plan_checker.proofs.AcceptedLaws.{all_used, as_wanted, each_atom, last_named, names_apart}
 use Rattle.plan_checker.proofs.CoverLaws.{AreApart, AreOrdered, makes, tops_cover}
-use Rattle.plan_checker.proofs.SiteLaws.{whole_sites}
+use Rattle.plan_checker.proofs.NameLaws.{AreNodesApart, bag_distinct, joins_apart, name_at, sites_apart}
+use Rattle.plan_checker.proofs.SiteLaws.{joined_sites, own_sites, whole_sites}
 
 -- ---- bags of what is taken from bags
 
@@ -47,7 +48,7 @@ weight_of_filter_map {A} {B} h w (x ∷ xs) = by (h x) (weight_of_filter_map h w
     by None e = omega (arith, e)
     by (Some y) e = ap (λ n. w y + n) e
 
-bag_filter_map : {A B : Type 0} (h : A → Option B) {xs ys : List A} → SameBag xs ys → SameBag (filter_map h xs) (filter_map h ys)
+pub bag_filter_map : {A B : Type 0} (h : A → Option B) {xs ys : List A} → SameBag xs ys → SameBag (filter_map h xs) (filter_map h ys)
 bag_filter_map h {xs} {ys} k = record { weighs = λ w. weight_of_filter_map h w xs ∙ k.weighs (λ x. taken w (h x)) ∙ sym (weight_of_filter_map h w ys) }
 
 no_fragments : (ns : List Node) → fragments_used (filter is_own ns) ≡ []
@@ -113,11 +114,12 @@ known_fragments atoms numbers (f ∷ fs) all =
 
 -- ---- fragments use those before them
 
+front : {A : Type 0} (us vs : List A) → take (length us) (us ++ vs) ≡ us
+front [] vs = refl
+front (u ∷ us) vs = ap (λ xs. u ∷ xs) (front us vs)
+
 take_front : {A : Type 0} (xs ys : List A) (n : ℕ) → length xs ≡ n → take n (xs ++ ys) ≡ xs
-take_front xs ys n e = rw (← e) (front xs ys)
-  where
-    front : {A : Type 0} (us vs : List A) → take (length us) (us ++ vs) ≡ us
-    front us vs = grind (arith)
+take_front xs ys n e = ap (λ k. take k (xs ++ ys)) (sym e) ∙ front xs ys
 
 ordered : (before : List ℕ) (n : ℕ) (fs : List Fragment) → length before ≡ n → early_from (before ++ numbers_of fs) n fs ≡ [] → AreOrdered before fs
 ordered before n [] e early = tt
@@ -136,25 +138,37 @@ ordered before n (f ∷ fs) e early =
     unflip false h = absurd (true≢false h)
 
     longer : length before ≡ n → length (before ++ f.number ∷ []) ≡ n + 1
-    longer h = grind (arith)
+    longer h = omega (arith, h, length-append before (f.number ∷ []))
 
 -- ---- the plan covers the query
 
+-- Fragments that cover so many atoms: each number stands for its expanded tree, each fragment uses those before it, the
+-- nodes where comparisons can be tested differ, and all joins have the atoms under them in the whole.
+pub record AreSound (atoms : ℕ) (fs : List Fragment) : Type 0 where
+  pub covers : CoversQuery atoms fs
+  pub made : IsMade (made_after (λ n. no_tree) fs) fs
+  pub ordered : AreOrdered [] fs
+  pub apart : AreNodesApart (map name_at (sites fs))
+  pub last : names (numbers_of fs) (last_of (numbers_of fs)) ≡ true
+  pub joins : all_join_sites [] fs ≡ flat_map (λ (f : Fragment). own_sites (made_after (λ n. no_tree) fs) f.tree) fs
+
 covered : (atoms : ℕ) (f : Fragment) (fs : List Fragment)
     → doubled nat_eq (map own_name (f ∷ fs)) ≡ []
+    → doubled nat_eq (map own_joins (f ∷ fs)) ≡ []
     → AllByRecursion (λ g. names_unknown atoms (numbers_of (f ∷ fs)) g ≡ false) (f ∷ fs)
     → indices_where (is_missing (atoms_used (nodes_in (f ∷ fs)))) 0 (numbers_from 1 atoms) ≡ []
     → indices_where (is_used_twice (atoms_used (nodes_in (f ∷ fs)))) 0 (numbers_from 1 atoms) ≡ []
     → misused_from (fragments_used (nodes_in (f ∷ fs))) 0 (numbers_of (f ∷ fs)) ≡ []
     → early_from (numbers_of (f ∷ fs)) 0 (f ∷ fs) ≡ []
-    → CoversQuery atoms (f ∷ fs)
-covered atoms f fs twice known missing used_twice misused early =
+    → AreSound atoms (f ∷ fs)
+covered atoms f fs twice joined known missing used_twice misused early =
     let all : List Fragment = f ∷ fs in
     let used : List ℕ = fragments_used (nodes_in all) in
     let made : ℕ → Shape = made_after (λ n. no_tree) all in
     let last : ℕ = last_of (numbers_of all) in
     let apart = names_apart [] 0 all twice in
-    let is : IsMade made all = makes (λ n. no_tree) [] all apart.1 apart.0 (ordered [] 0 all refl early) in
+    let before : AreOrdered [] all = ordered [] 0 all refl early in
+    let is : IsMade made all = makes (λ n. no_tree) [] all apart.1 apart.0 before in
     let bag : SameBag (numbers_of all) (used ++ last ∷ []) = all_used used f.number (numbers_of fs) apart.0 (as_wanted used 0 (numbers_of all) misused) (known_fragments atoms (numbers_of all) all known) in
     let tops = tops_cover made all [] (last ∷ []) is (subst (λ ns. SameBag ns (used ++ last ∷ [])) (sym (append-nil (numbers_of all))) bag) in
     let nodes : SameBag (nodes_of (made last)) (filter is_own (nodes_in all)) =
@@ -162,16 +176,27 @@ covered atoms f fs twice known missing used_twice misused early =
     let scans : SameBag (fragments_used (nodes_of (made last))) [] = subst (λ ns. SameBag (fragments_used (nodes_of (made last))) ns) (no_fragments (nodes_in all)) (bag_filter_map fragment_of nodes) in
     let own : SameBag (atoms_used (nodes_of (made last))) (atoms_used (nodes_in all)) = subst (λ ns. SameBag (atoms_used (nodes_of (made last))) ns) (same_atoms (nodes_in all)) (bag_filter_map atom_of nodes) in
     let atom_places : SameBag (filter_map atom_site (nodes_of (made last))) (filter_map atom_site (nodes_in all)) = subst (λ ss. SameBag (filter_map atom_site (nodes_of (made last))) ss) (same_atom_sites (nodes_in all)) (bag_filter_map atom_site nodes) in
-    record {
+    let each : SameBag (atoms_used (nodes_in all)) (numbers_from 1 atoms) = each_atom atoms (atoms_used (nodes_in all)) missing used_twice (known_atoms atoms (numbers_of all) all known) in
+    let alone = joins_apart [] 0 all joined in
+    let covers : CoversQuery atoms all = record {
       nodes = nodes;
       no_fragment = empty_bag (fragments_used (nodes_of (made last))) (bag_length scans);
-      each_atom = bag_trans own (each_atom atoms (atoms_used (nodes_in all)) missing used_twice (known_atoms atoms (numbers_of all) all known));
-      each_site = bag_append atom_places (whole_sites made all last apart.1 apart.0 (ordered [] 0 all refl early) is bag);
+      each_atom = bag_trans own each;
+      each_site = bag_append atom_places (whole_sites made all last apart.1 apart.0 before is bag);
+    } in
+    record {
+      covers = covers;
+      made = is;
+      ordered = before;
+      apart = sites_apart all (bag_distinct (atoms_used (nodes_in all)) 1 atoms each) alone.0;
+      last = last_named f.number (numbers_of fs);
+      joins = joined_sites made [] [] all refl (λ k e. absurd (true≢false (sym e))) apart.1 apart.0 before is;
     }
 
 -- each check is kept
 record AreKept (query : Query) (p : Plan) : Type 0 where
   twice : doubled nat_eq (map own_name p.fragments) ≡ []
+  joined : doubled nat_eq (map own_joins p.fragments) ≡ []
   known : indices_where (names_unknown (length query.atoms) (numbers_of p.fragments)) 0 p.fragments ≡ []
   missing : indices_where (is_missing (atoms_used (nodes_in p.fragments))) 0 (atom_numbers query) ≡ []
   used_twice : indices_where (is_used_twice (atoms_used (nodes_in p.fragments))) 0 (atom_numbers query) ≡ []
@@ -179,11 +204,12 @@ record AreKept (query : Query) (p : Plan) : Type 0 where
   early : early_from (numbers_of p.fragments) 0 p.fragments ≡ []
 
 kept : (query : Query) (catalogue : List Relation) (p : Plan) → first_broken is_up_to (checks_of query catalogue p) ≡ None → AreKept query p
-unfolding where_named_twice where_unknown where_missing where_used_twice where_misused where_early
+unfolding where_named_twice where_joined_twice where_unknown where_missing where_used_twice where_misused where_early
 kept query catalogue p e =
     let all : AllByRecursion IsKept (checks_of query catalogue p) = subst (IsExact is_up_to (checks_of query catalogue p)) e (checks.exact is_up_to location_order (checks_of query catalogue p)) in
     record {
       twice = map_empty (location part.Fragment) (doubled nat_eq (map own_name p.fragments)) (first_empty (in_part part.Fragment (doubled nat_eq (map own_name p.fragments))) (in_part part.Rule (doubled same_text (map rule_name p.rules))) all.0);
+      joined = map_empty (location part.Fragment) _ all.1.0;
       known =
           let joins = in_part part.Join (indices_where (is_unknown_join (joins_used (nodes_in p.fragments))) 0 p.joins) in
           let here = in_part part.Fragment (indices_where (names_unknown (length query.atoms) (numbers_of p.fragments)) 0 p.fragments) in
@@ -194,12 +220,13 @@ kept query catalogue p e =
       early = map_empty (location part.Fragment) _ all.1.1.1.1.1.1.1.0;
     }
 
-pub accepted_covers : (query : Query) (catalogue : List Relation) (p : Plan) (f : Fragment) (fs : List Fragment) → p.fragments ≡ f ∷ fs → first_broken is_up_to (checks_of query catalogue p) ≡ None → CoversQuery (length query.atoms) p.fragments
-accepted_covers query catalogue p f fs e none =
+pub accepted_sound : (query : Query) (catalogue : List Relation) (p : Plan) (f : Fragment) (fs : List Fragment) → p.fragments ≡ f ∷ fs → first_broken is_up_to (checks_of query catalogue p) ≡ None → AreSound (length query.atoms) p.fragments
+accepted_sound query catalogue p f fs e none =
     let h = kept query catalogue p none in
-    let goal : List Fragment → Type 0 = λ gs. CoversQuery (length query.atoms) gs in
+    let goal : List Fragment → Type 0 = λ gs. AreSound (length query.atoms) gs in
     subst goal (sym e) (covered (length query.atoms) f fs
     (subst (λ gs. doubled nat_eq (map own_name gs) ≡ []) e h.twice)
+    (subst (λ gs. doubled nat_eq (map own_joins gs) ≡ []) e h.joined)
     (none_broken (names_unknown (length query.atoms) (numbers_of (f ∷ fs))) 0 (f ∷ fs) (subst (λ (gs : List Fragment). indices_where (names_unknown (length query.atoms) (numbers_of gs)) 0 gs ≡ []) e h.known))
     (subst (λ gs. indices_where (is_missing (atoms_used (nodes_in gs))) 0 (atom_numbers query) ≡ []) e h.missing)
     (subst (λ gs. indices_where (is_used_twice (atoms_used (nodes_in gs))) 0 (atom_numbers query) ≡ []) e h.used_twice)

@@ -26,9 +26,9 @@ own_weight v n = cond (is_own n) (v n) 0
 abbrev made_weight : (Node → ℕ) → (ℕ → Shape) → ℕ → ℕ
 made_weight v made n = weight_of v (nodes_of (made n))
 
-pub used_in_join : (as bs : List Node) (j : ℕ) → fragments_used (as ++ (bs ++ node.Join j ∷ [])) ≡ fragments_used as ++ fragments_used bs
-used_in_join as bs j =
-    filter_map-append fragment_of as (bs ++ node.Join j ∷ []) ∙ ap (λ xs. fragments_used as ++ xs) (filter_map-append fragment_of bs (node.Join j ∷ []) ∙ append-nil (fragments_used bs))
+pub used_in_join : (ls rs : List Node) (j : ℕ) → fragments_used (ls ++ (rs ++ node.Join j ∷ [])) ≡ fragments_used ls ++ fragments_used rs
+used_in_join ls rs j =
+    filter_map-append fragment_of ls (rs ++ node.Join j ∷ []) ∙ ap (λ xs. fragments_used ls ++ xs) (filter_map-append fragment_of rs (node.Join j ∷ []) ∙ append-nil (fragments_used rs))
 
 expanded_weighs : (v : Node → ℕ) (made : ℕ → Shape) (t : Shape)
     → weight_of v (nodes_of (expanded made t)) ≡ weight_of (own_weight v) (nodes_of t) + weight_of (made_weight v made) (fragments_used (nodes_of t))
@@ -98,7 +98,7 @@ neither false b e = (refl, e)
 pub either_first : (a b : Bool) → a ≡ true → (a || b) ≡ true
 either_first a b e = rw e refl
 
-either_second : (a b : Bool) → b ≡ true → (a || b) ≡ true
+pub either_second : (a b : Bool) → b ≡ true → (a || b) ≡ true
 either_second true b e = refl
 either_second false b e = e
 
@@ -144,12 +144,12 @@ AreApart before ns = (k : ℕ) → names before k ≡ true → names ns k ≡ fa
 
 pub all_named : (before ks : List ℕ) (k : ℕ) → list_all (names before) ks ≡ true → names ks k ≡ true → names before k ≡ true
 all_named before [] k all e = absurd (true≢false (sym e))
-all_named before (m ∷ ks) k all e = by (names before m) (m == k) refl refl all e
+all_named before (m ∷ ks) k all e = by (names before m) (m == k) refl refl (λ x y. all_named before ks k x y) all e
   where
-    by : (a b : Bool) → names before m ≡ a → (m == k) ≡ b → (a && list_all (names before) ks) ≡ true → (b || names ks k) ≡ true → names before k ≡ true
-    by false b f g x y = absurd (true≢false (sym x))
-    by true true f g x y = ap (names before) (sym (eqb-true m k g)) ∙ f
-    by true false f g x y = all_named before ks k x y
+    by : (a b : Bool) → names before m ≡ a → (m == k) ≡ b → (list_all (names before) ks ≡ true → names ks k ≡ true → names before k ≡ true) → (a && list_all (names before) ks) ≡ true → (b || names ks k) ≡ true → names before k ≡ true
+    by false b f g more x y = absurd (true≢false (sym x))
+    by true true f g more x y = ap (names before) (sym (eqb-true m k g)) ∙ f
+    by true false f g more x y = more x y
 
 pub makes : (made : ℕ → Shape) (before : List ℕ) (fs : List Fragment) → AreApart before (numbers_of fs) → AreDistinct (numbers_of fs) → AreOrdered before fs → IsMade (made_after made fs) fs
 makes made before [] apart distinct ordered = tt

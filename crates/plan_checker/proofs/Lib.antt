@@ -1,6 +1,15 @@
+pub mod CountLaws
 pub mod CoverLaws
 pub mod AcceptedLaws
+pub mod LeastLaws
+pub mod WalkLaws
+pub mod NamingLaws
 pub mod SiteLaws
-pub mod CheckedLaws
 pub mod PlacedLaws
+pub mod NameLaws
+pub mod CheckedLaws
+pub mod BoundLaws
+pub mod SolvingLaws
+pub mod SolvedLaws
+pub mod FoundLaws
 pub mod DefaultLaws

@@ -1,5 +1,5 @@
 -- Each comparison of a query that fits its catalogue has a place.
-use Rattle.std.proofs.Common.{◌≡◌, ℕ, zero, suc, ◌+◌, ◌-◌, ◌==◌, ◌||◌, ◌&&◌, Bool, true, false, cond, List, [], ◌∷◌, ◌++◌, flat_map, length, Option, Some, None, Contains, append_assoc, append-nil, arith, refl, sym, ap, subst, ◌∙◌, true≢false}
+use Rattle.std.proofs.Common.{◌≡◌, ℕ, zero, suc, ◌+◌, ◌-◌, ◌==◌, ◌||◌, ◌&&◌, Bool, true, false, cond, List, [], ◌∷◌, ◌++◌, flat_map, length, Option, Some, None, Contains, append_assoc, append-nil, length-append, arith, refl, sym, ap, subst, ◌∙◌, true≢false}
 use Rattle.std.specs.Prelude.{nat_eq, option_map, slice_get}
 use Rattle.std.specs.List.{AllByRecursion, cons_option, filter_map, find, list_any}
 use Rattle.std.proofs.lemmas.List.Elements.{filter_map-append}
@@ -29,7 +29,7 @@ use Rattle.plan_checker.specs.Uses.{atom_of, atoms_used, fragments_used}
 use Rattle.plan_checker.specs.declared.walking.Site.{Site}
 use Rattle.plan_checker.proofs.CoverLaws.{either_first, either_second, names-append}
 
-named_in : (v : ℕ) (terms : List Term) → names (term_variables terms) v ≡ list_any (is_variable v) terms
+pub named_in : (v : ℕ) (terms : List Term) → names (term_variables terms) v ≡ list_any (is_variable v) terms
 named_in v [] = refl
 named_in v (Constant c ∷ terms) = named_in v terms
 named_in v (Variable w ∷ terms) = ap (λ b. (w == v) || b) (named_in v terms)
@@ -52,7 +52,7 @@ has_numbered v before [] n e = refl
 has_numbered v before (atom ∷ atoms) n e =
     let less : suc n - 1 ≡ n = omega arith in
     let here : atom_has (before ++ atom ∷ atoms) v (suc n) ≡ has_term v atom = ap (stands_in v) (ap (slice_get (before ++ atom ∷ atoms)) less ∙ get_front before atom atoms n e) in
-    let longer : length (before ++ atom ∷ []) ≡ suc n = grind (arith, e) in
+    let longer : length (before ++ atom ∷ []) ≡ suc n = omega (arith, e, length-append before (atom ∷ [])) in
     let rest : list_any (atom_has (before ++ atom ∷ atoms) v) (numbers_from (suc (suc n)) (length atoms)) ≡ list_any (has_term v) atoms =
     ap (λ all. list_any (atom_has all v) (numbers_from (suc (suc n)) (length atoms))) (sym (append_assoc before (atom ∷ []) atoms)) ∙ has_numbered v (before ++ atom ∷ []) atoms (suc n) longer in
     ap (λ b. b || list_any (atom_has (before ++ atom ∷ atoms) v) (numbers_from (suc (suc n)) (length atoms))) here ∙ ap (λ b. has_term v atom || b) rest
@@ -117,18 +117,18 @@ bound atoms x under c bag h =
     rw (term_bound atoms x under c.left bag parts.0, term_bound atoms x under c.right bag parts.1) refl
 
 -- what is found among several that has one
-record IsFound {A : Type 0} (p : A → Bool) (m : Option A) : Type 0 where
-  item : A
-  is : m ≡ Some item
-  holds : p item ≡ true
+pub record IsFound {A : Type 0} (p : A → Bool) (m : Option A) : Type 0 where
+  pub item : A
+  pub is : m ≡ Some item
+  pub holds : p item ≡ true
 
-found : {A : Type 0} (p : A → Bool) (xs : List A) → list_any p xs ≡ true → IsFound p (find p xs)
+pub found : {A : Type 0} (p : A → Bool) (xs : List A) → list_any p xs ≡ true → IsFound p (find p xs)
 found p [] e = absurd (true≢false (sym e))
-found {A} p (x ∷ xs) e = by (p x) refl e
+found {A} p (x ∷ xs) e = by (p x) refl (λ h. found p xs h) e
   where
-    by : (b : Bool) → p x ≡ b → (b || list_any p xs) ≡ true → IsFound p (cond b (Some x) (find p xs))
-    by true f h = record { item = x; is = refl; holds = f }
-    by false f h = found p xs h
+    by : (b : Bool) → p x ≡ b → (list_any p xs ≡ true → IsFound p (find p xs)) → (b || list_any p xs) ≡ true → IsFound p (cond b (Some x) (find p xs))
+    by true f more h = record { item = x; is = refl; holds = f }
+    by false f more h = more h
 
 each_found : (atoms : List Atom) (ss : List Site) (cs : List Comparison) → AllByRecursion (λ c. list_any (binds atoms c) ss ≡ true) cs → length (filter_map (place_of atoms ss) cs) ≡ length cs
 each_found atoms ss [] all = refl
@@ -136,7 +136,7 @@ each_found atoms ss (c ∷ cs) all =
     let here : IsFound (binds atoms c) (find (binds atoms c) ss) = found (binds atoms c) ss all.0 in
     ap (λ m. length (cons_option (option_map (λ (s : Site). s.name) m) (filter_map (place_of atoms ss) cs))) here.is ∙ ap suc (each_found atoms ss cs all.1)
 
-each_bound : (atoms : List Atom) (fs : List Fragment) (cs : List Comparison) → CoversQuery (length atoms) fs → AllByRecursion (StandsIn atoms) (comparison_variables cs) → AllByRecursion (λ c. list_any (binds atoms c) (sites fs) ≡ true) cs
+pub each_bound : (atoms : List Atom) (fs : List Fragment) (cs : List Comparison) → CoversQuery (length atoms) fs → AllByRecursion (StandsIn atoms) (comparison_variables cs) → AllByRecursion (λ c. list_any (binds atoms c) (sites fs) ≡ true) cs
 each_bound atoms fs [] covers h = tt
 each_bound atoms fs (c ∷ cs) covers h =
     let whole : Shape = whole_tree fs in

@@ -20,7 +20,7 @@ use Rattle.plan_checker.specs.declared.walking.Site.{Site}
 use Rattle.plan_checker.proofs.CoverLaws.{AreApart, AreOrdered, AreWeighed, all_named, named_first, named_second, names-append, neither, either_first, tops_weigh, used_in_join}
 
 -- a tree's own joins, each with the atoms under it in the whole
-abbrev own_sites : (ℕ → Shape) → Shape → List Site
+abbrev pub own_sites : (ℕ → Shape) → Shape → List Site
 own_sites made (tip l) = []
 own_sites made (fork j a b) = own_sites made a ++ (own_sites made b ++ site (name.Join j) (atoms_under [] (expanded made (fork j a b))) ∷ [])
 
@@ -55,11 +55,11 @@ finished_numbers finished = map (λ (e : FinishedFragment). e.number) finished
 
 in_front : (finished more : Finished) (k : ℕ) → names (finished_numbers finished) k ≡ true → atoms_in (finished ++ more) k ≡ atoms_in finished k
 in_front [] more k e = absurd (true≢false (sym e))
-in_front (f ∷ finished) more k e = by (f.number == k) e
+in_front (f ∷ finished) more k e = by (f.number == k) (λ h. in_front finished more k h) e
   where
-    by : (b : Bool) → (b || names (finished_numbers finished) k) ≡ true → cond b f.atoms (atoms_in (finished ++ more) k) ≡ cond b f.atoms (atoms_in finished k)
-    by true h = refl
-    by false h = in_front finished more k h
+    by : (b : Bool) → (names (finished_numbers finished) k ≡ true → atoms_in (finished ++ more) k ≡ atoms_in finished k) → (b || names (finished_numbers finished) k) ≡ true → cond b f.atoms (atoms_in (finished ++ more) k) ≡ cond b f.atoms (atoms_in finished k)
+    by true rest h = refl
+    by false rest h = rest h
 
 behind : (finished more : Finished) (k : ℕ) → names (finished_numbers finished) k ≡ false → atoms_in (finished ++ more) k ≡ atoms_in more k
 behind [] more k e = refl
@@ -67,7 +67,7 @@ behind (f ∷ finished) more k e =
     let apart = neither (f.number == k) (names (finished_numbers finished) k) e in
     ap (λ b. cond b f.atoms (atoms_in (finished ++ more) k)) apart.0 ∙ behind finished more k apart.1
 
-joined_sites : (made : ℕ → Shape) (finished : Finished) (before : List ℕ) (fs : List Fragment) → finished_numbers finished ≡ before → Fits finished made before → AreApart before (numbers_of fs) → AreDistinct (numbers_of fs) → AreOrdered before fs → IsMade made fs
+pub joined_sites : (made : ℕ → Shape) (finished : Finished) (before : List ℕ) (fs : List Fragment) → finished_numbers finished ≡ before → Fits finished made before → AreApart before (numbers_of fs) → AreDistinct (numbers_of fs) → AreOrdered before fs → IsMade made fs
     → all_join_sites finished fs ≡ flat_map (λ (f : Fragment). own_sites made f.tree) fs
 joined_sites made finished before [] numbers fits apart distinct ordered is = refl
 joined_sites made finished before (f ∷ fs) numbers fits apart distinct ordered is =

@@ -12,6 +12,7 @@ use Rattle.plan_reader.specs.declared.plan.Plan.{Plan}
 use Rattle.plan_reader.specs.declared.plan.PlanFault.{PlanFault}
 use Rattle.plan_reader.specs.declared.plan.PlanFault.TheVariants.{Refused, NoMemory}
 use Rattle.plan_checker.specs.Filling.{filled}
+use Rattle.plan_checker.specs.Members.{groups_of, members_of}
 use Rattle.plan_checker.specs.Places.{places}
 use Rattle.plan_checker.specs.Uses.{query_checks}
 use Rattle.plan_checker.specs.declared.checking.Checked.{Checked}
@@ -20,8 +21,10 @@ use Rattle.plan_checker.specs.declared.checking.Checked.{Checked}
 abbrev pub checks_of : Query → List Relation → Plan → List (Check Location)
 checks_of query catalogue plan = own_checks plan ++ query_checks query catalogue plan
 
-abbrev pub placed : Query → Plan → Checked
-placed query plan = record { plan = plan; places = places query plan.fragments }
+-- what is kept of a plan that breaks no check
+abbrev pub kept_of : Query → List Relation → Plan → Checked
+kept_of query catalogue plan =
+    record { plan = plan; places = places query plan.fragments; groups = groups_of query catalogue; members = members_of query catalogue }
 
 abbrev pub unless_broken : Option (Broken Location) → Checked → Result Checked PlanFault
 unless_broken None checked = Ok checked
@@ -29,9 +32,9 @@ unless_broken (Some broken) checked = Err (fault_of broken)
 
 -- what is found of a plan with fragments
 abbrev pub found_of : Query → List Relation → Plan → Result Checked PlanFault
-found_of query catalogue plan = unless_broken (first_broken is_up_to (checks_of query catalogue plan)) (placed query plan)
+found_of query catalogue plan = unless_broken (first_broken is_up_to (checks_of query catalogue plan)) (kept_of query catalogue plan)
 
--- the plan with each comparison's place, or the first check that it breaks, at the least location that breaks it
+-- what is kept of the plan, or the first check that it breaks, at the least location that breaks it
 abbrev pub checked_of : Query → List Relation → Plan → Result Checked PlanFault
 checked_of query catalogue plan = found_of query catalogue (filled (length query.atoms) plan)
 

@@ -1,7 +1,9 @@
 pub mod Filling
 pub mod Naming
 pub mod Uses
+pub mod Members
 pub mod Places
 pub mod Walks
 pub mod Covers
+pub mod Solving
 pub mod Checking

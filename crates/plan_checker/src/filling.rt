@@ -1,11 +1,11 @@
 //! The fragment that a plan gets that names none: all atoms joined, in their order.
 
-ghost use Rattle.std.specs.Prelude.{◌≡◌, ◌≤◌, ◌-◌, IfOk};
-ghost use Rattle.plan_checker.specs.Filling.{default_fragment, filled, left_deep};
+ghost use Rattle.std.specs.Prelude.{◌≡◌, [], ◌∷◌, ◌≤◌, ◌-◌, IfOk};
+ghost use Rattle.plan_checker.specs.Filling.{default_fragment, default_plan, filled, left_deep};
 
 use join_trees::{Leaf, Stack, Tree};
 use med_prelude::Listed;
-use plan_reader::{Fragment, Plan};
+use plan_reader::{Fragment, Method, Plan, Policy, Replan};
 use std::alloc::{AllocError, Global};
 
 /// The first atoms, each joined with the tree before it.
@@ -57,4 +57,24 @@ pub fn filled(alloc: Global, atoms: u32, plan: Plan) -> Result<Plan, AllocError>
     let mut fragments = Listed::new(alloc);
     fragments.push(default_fragment(alloc, atoms)?)?;
     Ok(Plan { fragments, ..plan })
+}
+
+/// The plan that names nothing, as the empty text says it.
+#[tactic(auto, unfolding(plan_reader::specs::Parts::parts_of, plan_reader::specs::Parts::plan_with))]
+pub fn default_plan(alloc: Global) -> Plan
+    ensures { result ≡ default_plan }
+{
+    Plan {
+        buckets: 64,
+        memory: 268_435_456,
+        method: Method::Left,
+        spill_limit: 1 << 40,
+        idle_limit: 100_000,
+        policy: Policy::First,
+        replan: Replan::Always,
+        fragments: Listed::new(alloc),
+        joins: Listed::new(alloc),
+        groups: Listed::new(alloc),
+        rules: Listed::new(alloc),
+    }
 }

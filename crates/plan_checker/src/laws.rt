@@ -13,7 +13,6 @@ ghost use Rattle.query_core.specs.declared.query.Query.{Query as AQuery};
 ghost use Rattle.query_reader.specs.Fitting.{FitsCatalogue};
 
 /// The plan that names nothing is accepted for every query that fits its catalogue.
-#[tactic(auto, using(crate::proofs::DefaultLaws::default_accepted))]
 pub fn default_is_accepted()
     ensures { (query : AQuery) (catalogue : List ARelation) → FitsCatalogue catalogue query → IsAccepted query catalogue default_plan }
 {}
@@ -21,7 +20,6 @@ pub fn default_is_accepted()
 /// Fragments that together with some finished ones are used once each, but for those on top, cover what they are made of:
 /// the whole trees of the top ones have the nodes of all fragments and those of the finished ones. `made` gives the whole
 /// tree of each number.
-#[tactic(auto, using(crate::proofs::CoverLaws::tops_cover))]
 pub fn tops_cover_fragments()
     ensures { (made : ℕ → Shape) (fs : List AFragment) (finished tops : List ℕ) → IsMade made fs
         → SameBag (numbers_of fs ++ finished) (fragments_used (nodes_in fs) ++ tops)

@@ -10,6 +10,7 @@
 mod checking;
 mod filling;
 mod laws;
+mod members;
 mod misused;
 mod places;
 #[cfg(test)]
@@ -19,4 +20,5 @@ mod uses;
 mod walking;
 
 pub use checking::{Checked, check_plan};
+pub use filling::default_plan;
 pub use laws::{default_is_accepted, tops_cover_fragments};

@@ -1,13 +1,14 @@
 //! The checks that each atom and each fragment but the last is used once, by a fragment behind it.
 
-ghost use Rattle.std.specs.Prelude.{◌≡◌, nat_le, length, position, IfOk};
-ghost use Rattle.answer_theory.specs.Bags.{numbers_from};
+ghost use Rattle.std.specs.Prelude.{◌≡◌, length, nat_le, position, IfOk};
+ghost use Rattle.med_base.specs.declared.status.Part.TheVariants as part;
+ghost use Rattle.text_reading.specs.Faults.{indices_where};
 ghost use Rattle.text_reading.specs.Order.{least};
-ghost use Rattle.plan_reader.specs.Locations.{is_up_to};
-ghost use Rattle.plan_checker.specs.Uses.{early_from, is_early, is_missing, is_used_twice, misused_from, where_early, where_misused, where_missing, where_used_twice};
+ghost use Rattle.plan_reader.specs.Locations.{in_part, is_up_to};
+ghost use Rattle.plan_checker.specs.Uses.{early_from, is_early, is_missing, is_used_twice, misused_from};
 
 use crate::unknown::{are_named, fragments_named};
-use crate::uses::{atom_numbers, count_of};
+use crate::uses::count_of;
 use med_base::Part;
 use plan_reader::{Fragment, Location, located};
 use std::alloc::{AllocError, Global};
@@ -63,6 +64,7 @@ fn first_early(
 }
 
 /// The location of the first atom that is no leaf.
+#[tactic(auto, using(plan_reader::proofs::LocationLaws::least_in_part, text_reading::proofs::FaultLaws::least_index))]
 pub fn missing_location(used: &[u32], atoms: &[u32]) -> Option<Location>
     ensures { result ≡ least is_up_to (in_part part.Atom (indices_where (is_missing used.now) 0 atoms.now)) }
 {
@@ -70,6 +72,7 @@ pub fn missing_location(used: &[u32], atoms: &[u32]) -> Option<Location>
 }
 
 /// The location of the first atom that is a leaf twice.
+#[tactic(auto, using(plan_reader::proofs::LocationLaws::least_in_part, text_reading::proofs::FaultLaws::least_index))]
 pub fn used_twice_location(used: &[u32], atoms: &[u32]) -> Option<Location>
     ensures { result ≡ least is_up_to (in_part part.Atom (indices_where (is_used_twice used.now) 0 atoms.now)) }
 {
@@ -77,6 +80,7 @@ pub fn used_twice_location(used: &[u32], atoms: &[u32]) -> Option<Location>
 }
 
 /// The location of the first fragment that is a leaf too often or too seldom.
+#[tactic(auto, using(plan_reader::proofs::LocationLaws::least_in_part))]
 pub fn misused_location(used: &[u32], numbers: &[u32]) -> Option<Location>
     ensures { result ≡ least is_up_to (in_part part.Fragment (misused_from used.now 0 numbers.now)) }
 {
@@ -84,6 +88,7 @@ pub fn misused_location(used: &[u32], numbers: &[u32]) -> Option<Location>
 }
 
 /// The location of the first fragment that names one that doesn't stand before it.
+#[tactic(auto, using(plan_reader::proofs::LocationLaws::least_in_part))]
 pub fn early_location(
     alloc: Global,
     numbers: &[u32],

@@ -1,8 +1,9 @@
 //! Where each comparison is tested: at the first node that binds its variables.
 
-ghost use Rattle.std.specs.List.{filter_map, find, list_any};
-ghost use Rattle.std.specs.Prelude.{◌≡◌, ◌++◌, option_map, slice_get, IfOk};
-ghost use Rattle.plan_checker.specs.Places.{all_join_sites, atom_has, atom_site, binds, binds_term, is_variable, place_of, places, sites, stands_in};
+ghost use Rattle.std.specs.List.{filter_map, list_any};
+ghost use Rattle.std.specs.Prelude.{◌≡◌, [], ◌∷◌, IfOk};
+ghost use Rattle.med_base.specs.declared.names.Name.TheVariants as name;
+ghost use Rattle.plan_checker.specs.Places.{atom_has, atom_site, binds, binds_term, is_variable, place_of, places, site, sites};
 
 use crate::uses::{atom_of, nodes_in};
 use crate::walking::{Site, all_join_sites};
@@ -117,13 +118,13 @@ pub fn places(
 ) -> Result<Listed<Name>, AllocError>
     ensures { IfOk result (λ found. found ≡ places query.now fragments.now) }
 {
-    let sites = sites(alloc, fragments)?;
-    let atoms = query.atoms.as_slice();
-    let mut found = Listed::new(alloc);
+    let found = sites(alloc, fragments)?;
+    let (atoms, sites) = (query.atoms.as_slice(), found.as_slice());
+    let mut places = Listed::new(alloc);
     for comparison in query.comparisons.as_slice() {
-        if let Some(name) = place_of(atoms, sites.as_slice(), comparison) {
-            found.push(name)?;
+        if let Some(name) = place_of(atoms, sites, comparison) {
+            places.push(name)?;
         }
     }
-    Ok(found)
+    Ok(places)
 }

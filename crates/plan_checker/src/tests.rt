@@ -32,7 +32,8 @@ fn plan(alloc: Global, text: &str) -> Result<Plan, Fail> {
     read_plan(alloc, text.as_bytes()).map_err(|_| Fail::from("no plan"))
 }
 
-/// What is found of a plan for a query of so many atoms `r(x0, x1)`, `r(x1, x2)` and so on.
+/// What is found of a plan's text, by its reader or by its checker, for a query of so many atoms `r(x0, x1)`, `r(x1, x2)`
+/// and so on.
 fn found(alloc: Global, atoms: u32, text: &str) -> Result<Result<Checked, PlanFault>, Fail> {
     let catalogue = catalogue(alloc)?;
     let mut body = String::from_str(alloc, "q(x0) :- r(x0, x1)")?;
@@ -42,8 +43,10 @@ fn found(alloc: Global, atoms: u32, text: &str) -> Result<Result<Checked, PlanFa
     }
     body.push('.')?;
     let query = query(alloc, body.as_bytes(), &catalogue)?;
-    let plan = plan(alloc, text)?;
-    Ok(check_plan(alloc, &query, &catalogue, plan))
+    Ok(match read_plan(alloc, text.as_bytes()) {
+        Ok(plan) => check_plan(alloc, &query, &catalogue, plan),
+        Err(fault) => Err(fault),
+    })
 }
 
 fn assert_refused(
@@ -58,89 +61,143 @@ fn assert_refused(
     }
 }
 
-/// Each check past its edge, and two broken checks in both orders.
+/// Each check past its edge, two broken checks in both orders, and a broken check of the reader's beside one of these.
 #[test]
 fn refuses_what_covers_no_query(rt: HostRuntime) -> Result<(), Fail> {
-    let two = "[[fragment]]\nname = \"f1\"\ntree = \"j1(a1, a2)\"\n";
     let cases = [
         (
             2,
-            "[[fragment]]\nname = \"f1\"\ntree = \"j1(a1, a3)\"",
+            r#"fragment = [{name = "f1", tree = "j1(a1, a3)"}]"#,
             4,
             Part::Fragment,
             0,
         ),
         (
             2,
-            "[[fragment]]\nname = \"f1\"\ntree = \"j1(a1, f7)\"",
+            r#"fragment = [{name = "f1", tree = "j1(a1, f7)"}]"#,
             4,
             Part::Fragment,
             0,
         ),
         (
             2,
-            "[[fragment]]\nname = \"f1\"\ntree = \"j1(a1, a2)\"\nafter = [\"f7\"]",
+            r#"fragment = [{name = "f1", tree = "a1"}, {name = "f2", tree = "j1(f1, a2)", after = ["f3"]}]"#,
             4,
             Part::Fragment,
-            0,
+            1,
         ),
-        (2, "[join.j1]\n[join.j2]", 4, Part::Join, 1),
-        (2, "[group.\"a3.1\"]", 4, Part::Group, 0),
-        (2, "[group.\"a1.2\"]\n[group.\"a1.3\"]", 4, Part::Group, 1),
-        (2, "[group.\"a1.3\"]\n[join.j2]", 4, Part::Join, 0),
+        (2, r#"join = {j1 = {}, j2 = {}}"#, 4, Part::Join, 1),
+        (2, r#"group = {"a3.1" = {}}"#, 4, Part::Group, 0),
         (
             2,
-            "[[fragment]]\nname = \"f1\"\ntree = \"a1\"",
+            r#"group = {"a1.2" = {}, "a1.3" = {}}"#,
+            4,
+            Part::Group,
+            1,
+        ),
+        (
+            2,
+            r#"fragment = [{name = "f1", tree = "a1"}]"#,
             5,
             Part::Atom,
             1,
         ),
         (
             2,
-            "[[fragment]]\nname = \"f1\"\ntree = \"j1(a1, j2(a2, a1))\"",
+            r#"fragment = [{name = "f1", tree = "j1(a1, j2(a2, a1))"}]"#,
             6,
             Part::Atom,
             0,
         ),
         (
+            2,
+            r#"fragment = [{name = "f1", tree = "a1"}, {name = "f2", tree = "a2"}]"#,
+            7,
+            Part::Fragment,
+            0,
+        ),
+        (
+            2,
+            r#"fragment = [{name = "f1", tree = "a1"}, {name = "f2", tree = "j1(f1, j2(f1, a2))"}]"#,
+            7,
+            Part::Fragment,
+            0,
+        ),
+        (
+            2,
+            r#"fragment = [{name = "f1", tree = "j1(f2, a1)"}, {name = "f2", tree = "a2"}]"#,
+            7,
+            Part::Fragment,
+            0,
+        ),
+        (
+            1,
+            r#"fragment = [{name = "f1", tree = "a1", after = ["f2"]}, {name = "f2", tree = "f1"}]"#,
+            8,
+            Part::Fragment,
+            0,
+        ),
+        (
+            1,
+            r#"fragment = [{name = "f1", tree = "a1", after = ["f1"]}]"#,
+            8,
+            Part::Fragment,
+            0,
+        ),
+        (
+            2,
+            "group = {\"a1.3\" = {}}\njoin = {j2 = {}}",
+            4,
+            Part::Join,
+            0,
+        ),
+        (
+            2,
+            "join = {j2 = {}}\ngroup = {\"a1.3\" = {}}",
+            4,
+            Part::Join,
+            0,
+        ),
+        (
             3,
-            "[[fragment]]\nname = \"f1\"\ntree = \"j1(a2, a2)\"",
+            r#"fragment = [{name = "f1", tree = "j1(a3, a3)"}]"#,
             5,
             Part::Atom,
             0,
         ),
         (
-            2,
-            "[[fragment]]\nname = \"f1\"\ntree = \"a1\"\n[[fragment]]\nname = \"f2\"\ntree = \"a2\"",
-            7,
+            3,
+            r#"fragment = [{name = "f1", tree = "j1(a1, j2(a1, a4))"}]"#,
+            4,
             Part::Fragment,
             0,
         ),
         (
             2,
-            "[[fragment]]\nname = \"f1\"\ntree = \"a1\"\n[[fragment]]\nname = \"f2\"\ntree = \"j1(f1, j2(f1, a2))\"",
-            7,
-            Part::Fragment,
+            r#"fragment = [{name = "f1", tree = "j1(f2, a2)"}, {name = "f2", tree = "j2(a1, a1)"}]"#,
+            6,
+            Part::Atom,
             0,
         ),
         (
             2,
-            "[[fragment]]\nname = \"f1\"\ntree = \"j1(f2, a1)\"\n[[fragment]]\nname = \"f2\"\ntree = \"a2\"",
+            r#"fragment = [{name = "f1", tree = "a1", after = ["f2"]}, {name = "f2", tree = "a2"}]"#,
             7,
             Part::Fragment,
             0,
         ),
+        (2, r#"join = {j2 = {quota = -1}}"#, 11, Part::Join, 0),
         (
+            2,
+            r#"fragment = [{name = "f1", tree = "j1(a1, a3)"}, {name = "f1", tree = "a2"}]"#,
+            2,
+            Part::Fragment,
             1,
-            "[[fragment]]\nname = \"f1\"\ntree = \"a1\"\nafter = [\"f2\"]\n[[fragment]]\nname = \"f2\"\ntree = \"f1\"",
-            8,
-            Part::Fragment,
-            0,
         ),
         (
-            1,
-            "[[fragment]]\nname = \"f1\"\ntree = \"a1\"\nafter = [\"f1\"]",
-            8,
+            2,
+            r#"fragment = [{name = "f1", tree = "j1(a1, j1(a1, a1))"}]"#,
+            3,
             Part::Fragment,
             0,
         ),
@@ -149,7 +206,29 @@ fn refuses_what_covers_no_query(rt: HostRuntime) -> Result<(), Fail> {
         let told = PlanFault::Refused { why, part, item };
         assert_refused(&rt, found(rt.alloc(), atoms, text)?, told, text);
     }
-    assert!(rt; found(rt.alloc(), 2, two)?.is_ok());
+    Ok(())
+}
+
+/// Each check at its edge.
+#[test]
+fn accepts_what_is_at_the_edge(rt: HostRuntime) -> Result<(), Fail> {
+    let cases = [
+        (2, r#"fragment = [{name = "f1", tree = "j1(a2, a1)"}]"#),
+        (
+            2,
+            r#"fragment = [{name = "f7", tree = "a2"}, {name = "f1", tree = "j9(f7, a1)", after = ["f7"]}]"#,
+        ),
+        (
+            1,
+            r#"fragment = [{name = "f1", tree = "a1"}, {name = "f2", tree = "f1"}]"#,
+        ),
+        (3, r#"join = {j1 = {}, j2 = {}}"#),
+        (2, r#"group = {"a2.1" = {}, "a2.2" = {}}"#),
+        (8, ""),
+    ];
+    for (atoms, text) in cases {
+        assert!(rt; found(rt.alloc(), atoms, text)?.is_ok(), "{text}");
+    }
     Ok(())
 }
 

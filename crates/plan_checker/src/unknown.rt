@@ -1,12 +1,12 @@
 //! The check that what a plan names is there: atoms, fragments, joins and groups.
 
 ghost use Rattle.std.specs.List.{list_all};
-ghost use Rattle.std.specs.Prelude.{◌≡◌, ◌^◌, ◌<◌, length, nat_le, position, IfOk};
+ghost use Rattle.std.specs.Prelude.{◌≡◌, position, slice_get, IfOk};
 ghost use Rattle.answer_theory.specs.Solutions.{names};
 ghost use Rattle.text_reading.specs.Order.{least};
 ghost use Rattle.plan_reader.specs.Locations.{is_up_to};
 ghost use Rattle.plan_checker.specs.Naming.{SameNames};
-ghost use Rattle.plan_checker.specs.Uses.{atom_groups, fragments_named, group_count, groups_in, has_group, is_atom, is_unknown_group, is_unknown_join, names_known, names_unknown, where_unknown};
+ghost use Rattle.plan_checker.specs.Uses.{fragments_named, group_count, groups_in, has_group, is_atom, is_unknown_group, is_unknown_join, joins_used, names_unknown, nodes_in, numbers_of, where_unknown};
 
 use crate::uses::{atoms_used, fragments_used, is_named};
 use cat_reader::Catalogue;
@@ -116,7 +116,7 @@ fn groups_in(catalogue: &Catalogue, relation: u32) -> usize
 }
 
 /// How many groups the atom's relation has.
-fn group_count(query: &Query, catalogue: &Catalogue, atom: u32) -> usize
+pub fn group_count(query: &Query, catalogue: &Catalogue, atom: u32) -> usize
     ensures { result ≡ group_count query.now catalogue.now atom }
 {
     match query.atoms.as_slice().get(atom.saturating_sub(1) as usize) {
@@ -141,6 +141,7 @@ fn unknown_group(query: &Query, catalogue: &Catalogue, groups: &[GroupSetting]) 
 }
 
 /// The least location of a name that names nothing.
+#[tactic(auto, using(plan_reader::proofs::LocationLaws::location_append, plan_reader::proofs::LocationLaws::least_in_part, text_reading::proofs::FaultLaws::least_index), unfolding(crate::specs::Uses::where_unknown))]
 pub fn unknown_location(
     alloc: Global,
     query: &Query,

@@ -3,6 +3,8 @@
 ghost use Rattle.std.specs.List.{filter_map};
 ghost use Rattle.std.specs.Prelude.{◌≡◌, map, IfOk};
 ghost use Rattle.answer_theory.specs.Bags.{count_of, numbers_from};
+ghost use Rattle.answer_theory.specs.Solutions.{names};
+ghost use Rattle.join_trees.specs.Shapes.{join_in};
 ghost use Rattle.plan_checker.specs.Uses.{atom_of, fragment_of, nodes_in, numbers_of};
 
 use join_trees::{Leaf, Node};

@@ -1,6 +1,7 @@
 //! The joins of trees, each with the atoms under it.
 
 ghost use Rattle.std.specs.Prelude.{◌≡◌, [], ◌∷◌, ◌++◌, IfOk, OnOk};
+ghost use Rattle.join_trees.specs.declared.tree.Node.TheVariants as node;
 ghost use Rattle.plan_checker.specs.Places.{all_join_sites, atoms_in};
 ghost use Rattle.plan_checker.specs.Walks.{below, top, walk, with_node, with_nodes};
 
