@@ -1,5 +1,9 @@
 //! Plans for a query by hand: where they are refused, and where comparisons are tested.
 
+ghost use Rattle.std.specs.Prelude.{IfOk};
+ghost use Rattle.cat_reader.specs.Accepted.{KeepsLimits};
+ghost use Rattle.query_reader.specs.Fitting.{FitsCatalogue};
+
 use crate::{Checked, check_plan};
 use cat_reader::{Catalogue, read_catalogue};
 use med_base::{Name, Part};
@@ -20,12 +24,23 @@ groups = [["r1"], ["r2", "r3"]]
 const FOUR: &[u8] =
     b"q(x, v) :- r(x, y), r(y, z), r(z, w), r(w, v), x < z, y > 5, w <= v, x != v, y = w.";
 
-fn catalogue(alloc: Global) -> Result<Catalogue, Fail> {
-    read_catalogue(alloc, CATALOGUE).map_err(|_| Fail::from("no catalogue"))
+fn catalogue(alloc: Global) -> Result<Catalogue, Fail>
+    ensures { IfOk result KeepsLimits }
+{
+    match read_catalogue(alloc, CATALOGUE) {
+        Ok(catalogue) => Ok(catalogue),
+        Err(_) => Err(Fail::from("no catalogue")),
+    }
 }
 
-fn query(alloc: Global, text: &[u8], catalogue: &Catalogue) -> Result<Query, Fail> {
-    read_query(alloc, text, catalogue).map_err(|_| Fail::from("no query"))
+fn query(alloc: Global, text: &[u8], catalogue: &Catalogue) -> Result<Query, Fail>
+    requires { KeepsLimits catalogue.now }
+    ensures { IfOk result (FitsCatalogue catalogue.now) }
+{
+    match read_query(alloc, text, catalogue) {
+        Ok(query) => Ok(query),
+        Err(_) => Err(Fail::from("no query")),
+    }
 }
 
 fn plan(alloc: Global, text: &str) -> Result<Plan, Fail> {
