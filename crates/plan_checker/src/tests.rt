@@ -4,9 +4,9 @@ ghost use Rattle.std.specs.Prelude.{IfOk};
 ghost use Rattle.cat_reader.specs.Accepted.{KeepsLimits};
 ghost use Rattle.query_reader.specs.Fitting.{FitsCatalogue};
 
-use crate::{Checked, check_plan};
+use crate::{Checked, check_plan, default_plan};
 use cat_reader::{Catalogue, read_catalogue};
-use med_base::{Name, Part};
+use med_base::{GroupName, MemberName, Name, Part};
 use plan_reader::{Leaf, Node, Plan, PlanFault, read_plan};
 use query_core::Query;
 use query_reader::read_query;
@@ -304,5 +304,36 @@ fn places_comparisons(rt: HostRuntime) -> Result<(), Fail> {
         ))?;
         assert_eq!(rt; checked.places(), expected.as_slice(), "{text}");
     }
+    Ok(())
+}
+
+/// Two atoms over a relation with a group of one mirror and one of two, under the plan that names nothing.
+#[test]
+fn lists_what_is_read(rt: HostRuntime) -> Result<(), Fail> {
+    let alloc = rt.alloc();
+    let catalogue = catalogue(alloc)?;
+    let query = query(alloc, b"q(x) :- r(x, y), r(y, z).", &catalogue)?;
+    let plan = default_plan(alloc);
+    let checked = match check_plan(alloc, &query, &catalogue, plan) {
+        Ok(checked) => checked,
+        Err(_) => return Err(Fail::from("refused")),
+    };
+    let group = |atom, group| GroupName { atom, group };
+    let groups = [group(1, 1), group(1, 2), group(2, 1), group(2, 2)];
+    assert_eq!(rt; checked.groups(), groups.as_slice());
+    let member = |atom, group, mirror| MemberName {
+        atom,
+        group,
+        mirror,
+    };
+    let members = [
+        member(1, 1, 1),
+        member(1, 2, 1),
+        member(1, 2, 2),
+        member(2, 1, 1),
+        member(2, 2, 1),
+        member(2, 2, 2),
+    ];
+    assert_eq!(rt; checked.members(), members.as_slice());
     Ok(())
 }
