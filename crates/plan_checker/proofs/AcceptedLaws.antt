@@ -1,23 +1,22 @@
 -- What holds where no check of a plan is broken.
-use Rattle.std.proofs.Common.{◌≡◌, ℕ, zero, suc, ◌+◌, ◌<◌, ◌≤◌, ◌==◌, ◌||◌, ◌&&◌, not, nat_le, nat_lt, Bool, true, false, cond, List, [], ◌∷◌, ◌++◌, map, length, take, arith, refl, sym, ap, ◌∙◌, true≢false}
+use Rattle.std.proofs.Common.{◌≡◌, ℕ, zero, suc, ◌+◌, ◌<◌, ◌≤◌, ◌==◌, ◌||◌, ◌&&◌, not, nat_le, nat_lt, Bool, true, false, cond, List, [], ◌∷◌, ◌++◌, map, arith, refl, sym, ap, ◌∙◌, true≢false}
 use Rattle.std.specs.Prelude.{nat_eq}
-use Rattle.std.specs.List.{AllByRecursion, list_all, list_any}
+use Rattle.std.specs.List.{list_all, list_any}
 use Rattle.std.proofs.lemmas.Bool.Decides.{nat_tests}
 use Rattle.std.proofs.lemmas.Bool.{eqb-true}
-use Rattle.answer_theory.specs.Bags.{SameBag, count_of, numbers_from, weight_of}
+use Rattle.answer_theory.specs.Bags.{SameBag, count_of, numbers_from}
 use Rattle.answer_theory.specs.Rows.{AreDistinct}
 use Rattle.answer_theory.specs.Solutions.{names}
 use Rattle.answer_theory.proofs.Bags.{weight_of_append}
 use Rattle.answer_theory.proofs.Bools.{nat_eq_self, nat_eq_sym}
-use Rattle.answer_theory.proofs.Numbers.{bag_counted, count_of_beyond, count_of_first, count_of_from, count_of_other}
+use Rattle.answer_theory.proofs.Numbers.{bag_counted, count_of_beyond, count_of_from, count_of_other}
 use Rattle.text_reading.specs.Faults.{broken_if, indices_where}
-use Rattle.text_reading.proofs.FaultLaws.{first_empty, none_broken, not_broken, rest_empty}
-use Rattle.join_trees.specs.Shapes.{nodes_of}
+use Rattle.text_reading.proofs.FaultLaws.{first_empty, not_broken, rest_empty}
 use Rattle.plan_reader.specs.Items.{doubled_after, has_doubled}
 use Rattle.plan_reader.specs.Own.{own_name}
 use Rattle.plan_reader.specs.declared.plan.Fragment.{Fragment}
 use Rattle.plan_checker.specs.Covers.{last_of}
-use Rattle.plan_checker.specs.Uses.{fragments_used, is_atom, is_missing, is_used_twice, misused_from, nodes_in, numbers_of, wanted}
+use Rattle.plan_checker.specs.Uses.{is_atom, is_missing, is_used_twice, misused_from, numbers_of, wanted}
 use Rattle.plan_checker.proofs.CoverLaws.{AreApart, named_first, named_last}
 
 neither : (a b : Bool) → (a || b) ≡ false → (a ≡ false) × (b ≡ false)

@@ -1,10 +1,9 @@
 -- A plan that breaks no check covers its query.
-use Rattle.std.proofs.Common.{◌≡◌, ℕ, suc, ◌+◌, ◌&&◌, not, Bool, true, false, List, [], ◌∷◌, ◌++◌, filter, flat_map, map, length, take, Option, Some, None, append_assoc, append-nil, length-append, arith, refl, sym, ap, subst, ◌∙◌, true≢false}
+use Rattle.std.proofs.Common.{◌≡◌, ℕ, ◌+◌, ◌&&◌, not, Bool, true, false, List, [], ◌∷◌, ◌++◌, filter, flat_map, map, length, take, Option, Some, None, append_assoc, append-nil, length-append, arith, refl, sym, ap, subst, ◌∙◌, true≢false}
 use Rattle.std.specs.Prelude.{nat_eq}
 use Rattle.std.specs.List.{AllByRecursion, cons_option, filter_map, list_all}
 use Rattle.std.proofs.lemmas.List.Elements.{filter_map-append}
 use Rattle.answer_theory.specs.Bags.{SameBag, numbers_from, weight_of}
-use Rattle.answer_theory.specs.Rows.{AreDistinct}
 use Rattle.answer_theory.specs.Solutions.{names}
 use Rattle.answer_theory.proofs.Bags.{bag_append, bag_length, bag_trans}
 use Rattle.cat_reader.specs.declared.catalogue.Relation.{Relation}
@@ -26,11 +25,11 @@ use Rattle.plan_reader.specs.Words.{same_text}
 use Rattle.plan_reader.specs.declared.plan.Fragment.{Fragment}
 use Rattle.plan_reader.specs.declared.plan.Plan.{Plan}
 use Rattle.plan_checker.specs.Checking.{checks_of}
-use Rattle.plan_checker.specs.Covers.{CoversQuery, IsMade, is_own, last_of, made_after, whole_tree}
+use Rattle.plan_checker.specs.Covers.{CoversQuery, IsMade, is_own, last_of, made_after}
 use Rattle.plan_checker.specs.Places.{all_join_sites, atom_site, site, sites}
-use Rattle.plan_checker.specs.Uses.{atom_numbers, atom_of, atoms_used, early_from, fragment_of, fragments_named, fragments_used, is_atom, is_early, is_missing, is_unknown_group, is_unknown_join, is_used_twice, joins_used, misused_from, names_known, names_unknown, nodes_in, numbers_of, where_early, where_missing, where_misused, where_unknown, where_used_twice}
+use Rattle.plan_checker.specs.Uses.{atom_numbers, atom_of, atoms_used, early_from, fragment_of, fragments_named, fragments_used, is_atom, is_early, is_missing, is_unknown_group, is_unknown_join, is_used_twice, joins_used, misused_from, names_unknown, nodes_in, numbers_of, where_early, where_missing, where_misused, where_unknown, where_used_twice}
 use Rattle.plan_checker.proofs.AcceptedLaws.{all_used, as_wanted, each_atom, last_named, names_apart}
-use Rattle.plan_checker.proofs.CoverLaws.{AreApart, AreOrdered, makes, tops_cover}
+use Rattle.plan_checker.proofs.CoverLaws.{AreOrdered, makes, tops_cover}
 use Rattle.plan_checker.proofs.NameLaws.{AreNodesApart, bag_distinct, joins_apart, name_at, sites_apart}
 use Rattle.plan_checker.proofs.SiteLaws.{joined_sites, own_sites, whole_sites}
 

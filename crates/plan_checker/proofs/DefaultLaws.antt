@@ -1,5 +1,5 @@
 -- The plan that names nothing is accepted.
-use Rattle.std.proofs.Common.{◌≡◌, ℕ, zero, suc, ◌≤◌, List, [], ◌∷◌, ◌++◌, length, Option, None, arith, refl, subst, sym}
+use Rattle.std.proofs.Common.{◌≡◌, ℕ, zero, suc, ◌≤◌, List, [], ◌∷◌, ◌++◌, length, None, arith, refl, subst, sym}
 use Rattle.answer_theory.specs.Bags.{numbers_from}
 use Rattle.cat_reader.specs.declared.catalogue.Relation.{Relation}
 use Rattle.query_core.specs.declared.query.Query.{Query}
@@ -16,7 +16,7 @@ use Rattle.plan_reader.specs.declared.location.Location.{Location}
 use Rattle.plan_reader.specs.declared.plan.Plan.{Plan}
 use Rattle.plan_checker.specs.Checking.{IsAccepted, checks_of}
 use Rattle.plan_checker.specs.Filling.{default_plan, filled}
-use Rattle.plan_checker.specs.Uses.{atoms_used, is_missing, is_unknown_group, is_unknown_join, is_used_twice, joins_used, names_unknown, nodes_in, numbers_of, query_checks, where_early, where_misused, where_missing, where_unknown, where_used_twice}
+use Rattle.plan_checker.specs.Uses.{atoms_used, is_missing, is_unknown_group, is_unknown_join, is_used_twice, joins_used, names_unknown, nodes_in, numbers_of, where_early, where_misused, where_missing, where_unknown, where_used_twice}
 
 -- the checks of the plan of so many atoms
 abbrev checks_at : Query → List Relation → ℕ → Plan → List (Check Location)

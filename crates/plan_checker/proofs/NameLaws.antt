@@ -1,7 +1,7 @@
 -- The names of the nodes where comparisons can be tested differ, so that each comparison is placed at one node alone.
-use Rattle.std.proofs.Common.{◌≡◌, ℕ, zero, suc, ◌+◌, ◌≤◌, ◌<◌, ◌==◌, ◌||◌, Bool, true, false, cond, List, [], ◌∷◌, ◌++◌, filter, flat_map, map, length, Option, Some, None, arith, refl, sym, ap, subst, ◌∙◌, true≢false, append-nil}
-use Rattle.std.specs.Prelude.{nat_eq, option_map, slice_get}
-use Rattle.std.specs.List.{AllByRecursion, cons_option, filter_map, find, list_any}
+use Rattle.std.proofs.Common.{◌≡◌, ℕ, zero, suc, ◌+◌, ◌≤◌, ◌<◌, ◌==◌, ◌||◌, Bool, true, false, cond, List, [], ◌∷◌, ◌++◌, flat_map, map, length, arith, refl, sym, ap, subst, ◌∙◌, true≢false}
+use Rattle.std.specs.Prelude.{nat_eq}
+use Rattle.std.specs.List.{AllByRecursion, filter_map, list_any}
 use Rattle.std.proofs.lemmas.List.Elements.{filter_map-append}
 use Rattle.std.proofs.lemmas.List.{map-append}
 use Rattle.std.proofs.lemmas.Bool.{eqb-true}
@@ -10,11 +10,9 @@ use Rattle.answer_theory.specs.Rows.{AreDistinct}
 use Rattle.answer_theory.specs.Solutions.{names}
 use Rattle.answer_theory.proofs.Bags.{weight_of_alike, weight_of_append, weight_of_flat_map, weight_of_nothing, weight_of_sum}
 use Rattle.answer_theory.proofs.Bools.{nat_eq_self, nat_eq_sym}
-use Rattle.answer_theory.proofs.Lists.{any_append}
 use Rattle.med_base.specs.declared.names.Name.{Name}
 use Rattle.med_base.specs.declared.names.Name.TheVariants as name
 use Rattle.row_match.specs.declared.filter.Comparison.{Comparison}
-use Rattle.query_core.specs.declared.query.Atom.{Atom}
 use Rattle.text_reading.specs.Faults.{broken_if}
 use Rattle.text_reading.proofs.FaultLaws.{first_empty, not_broken, rest_empty}
 use Rattle.join_trees.specs.Shapes.{Shape, tip, fork, join_in, nodes_of}
@@ -24,9 +22,9 @@ use Rattle.join_trees.specs.declared.tree.Node.TheVariants as node
 use Rattle.plan_reader.specs.Items.{doubled_after, has_doubled}
 use Rattle.plan_reader.specs.Own.{own_joins}
 use Rattle.plan_reader.specs.declared.plan.Fragment.{Fragment}
-use Rattle.plan_checker.specs.Places.{Finished, all_join_sites, atom_site, atoms_under, join_sites, place_of, site, sites, with_fragment}
-use Rattle.plan_checker.specs.Solving.{is_atom_named, is_join_named, name_of, placed_at, same_node}
-use Rattle.plan_checker.specs.Uses.{atom_of, atoms_used, joins_used, nodes_in}
+use Rattle.plan_checker.specs.Places.{Finished, all_join_sites, atom_site, atoms_under, join_sites, site, sites, with_fragment}
+use Rattle.plan_checker.specs.Solving.{name_of, placed_at, same_node}
+use Rattle.plan_checker.specs.Uses.{atoms_used, joins_used, nodes_in}
 use Rattle.plan_checker.specs.declared.walking.Site.{Site}
 use Rattle.plan_checker.proofs.CoverLaws.{AreApart, named_first, named_last, neither, names-append}
 use Rattle.plan_checker.proofs.AcceptedLaws.{flipped, none_below}

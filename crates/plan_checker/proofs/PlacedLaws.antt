@@ -1,5 +1,5 @@
 -- Each comparison of a query that fits its catalogue has a place.
-use Rattle.std.proofs.Common.{◌≡◌, ℕ, zero, suc, ◌+◌, ◌-◌, ◌==◌, ◌||◌, ◌&&◌, Bool, true, false, cond, List, [], ◌∷◌, ◌++◌, flat_map, length, Option, Some, None, Contains, append_assoc, append-nil, length-append, arith, refl, sym, ap, subst, ◌∙◌, true≢false}
+use Rattle.std.proofs.Common.{◌≡◌, ℕ, zero, suc, ◌-◌, ◌==◌, ◌||◌, Bool, true, false, cond, List, [], ◌∷◌, ◌++◌, length, Option, Some, append_assoc, append-nil, length-append, arith, refl, sym, ap, subst, ◌∙◌, true≢false}
 use Rattle.std.specs.Prelude.{nat_eq, option_map, slice_get}
 use Rattle.std.specs.List.{AllByRecursion, cons_option, filter_map, find, list_any}
 use Rattle.std.proofs.lemmas.List.Elements.{filter_map-append}

@@ -1,6 +1,5 @@
 -- The nodes where comparisons can be tested are those of the whole tree, with the atoms under them there.
 use Rattle.std.proofs.Common.{◌≡◌, ℕ, ◌+◌, ◌==◌, ◌||◌, Bool, true, false, cond, List, [], ◌∷◌, ◌++◌, map, flat_map, append-nil, arith, refl, sym, ap, subst, ◌∙◌, true≢false}
-use Rattle.std.specs.List.{AllByRecursion, filter_map, list_all}
 use Rattle.std.proofs.lemmas.Bool.{eqb-true}
 use Rattle.std.proofs.lemmas.List.{map-append}
 use Rattle.answer_theory.specs.Bags.{SameBag, weight_of}
@@ -13,7 +12,7 @@ use Rattle.join_trees.specs.Shapes.{Shape, tip, fork, nodes_of}
 use Rattle.join_trees.specs.declared.tree.Leaf.TheVariants as leaf
 use Rattle.plan_reader.specs.declared.plan.Fragment.{Fragment}
 use Rattle.plan_checker.specs.Covers.{IsMade, expanded}
-use Rattle.plan_checker.specs.Places.{Finished, all_join_sites, atoms_in, atoms_under, join_sites, site, with_fragment}
+use Rattle.plan_checker.specs.Places.{Finished, all_join_sites, atoms_in, atoms_under, join_sites, site}
 use Rattle.plan_checker.specs.Uses.{fragments_used, nodes_in, numbers_of}
 use Rattle.plan_checker.specs.declared.walking.FinishedFragment.{FinishedFragment}
 use Rattle.plan_checker.specs.declared.walking.Site.{Site}

@@ -1,9 +1,9 @@
 -- What sound fragments do for a query that fits its catalogue: each comparison is tested once, and the last table has the solutions.
-use Rattle.std.proofs.Common.{◌≡◌, ℕ, List, [], ◌∷◌, ◌++◌, filter, flat_map, map, length, refl, sym, ap, subst, ◌∙◌}
+use Rattle.std.proofs.Common.{◌≡◌, ℕ, List, [], ◌∷◌, filter, flat_map, map, length, refl, ap, subst, ◌∙◌}
 use Rattle.std.specs.List.{AllByRecursion, filter_map}
 use Rattle.std.proofs.lemmas.List.Elements.{filter_map-append}
 use Rattle.answer_theory.specs.Bags.{SameBag}
-use Rattle.answer_theory.proofs.Bags.{bag_sym, bag_trans}
+use Rattle.answer_theory.proofs.Bags.{bag_trans}
 use Rattle.med_base.specs.declared.names.Name.{Name}
 use Rattle.med_base.specs.declared.names.Name.TheVariants as name
 use Rattle.row_match.specs.Filters.{comparison_variables}
@@ -15,7 +15,7 @@ use Rattle.join_trees.specs.declared.tree.Leaf.TheVariants as leaf
 use Rattle.join_trees.specs.declared.tree.Node.TheVariants as node
 use Rattle.plan_reader.specs.declared.plan.Fragment.{Fragment}
 use Rattle.plan_checker.specs.Covers.{is_own, last_of, made_after, whole_tree}
-use Rattle.plan_checker.specs.Places.{all_join_sites, atom_site, place_of, places, sites}
+use Rattle.plan_checker.specs.Places.{all_join_sites, atom_site, places, sites}
 use Rattle.plan_checker.specs.Solving.{Solves, name_of, names_in, tested_in}
 use Rattle.plan_checker.specs.Uses.{nodes_in, numbers_of}
 use Rattle.plan_checker.specs.declared.walking.Site.{Site}
@@ -24,7 +24,7 @@ use Rattle.plan_checker.proofs.CheckedLaws.{AreSound, bag_filter_map}
 use Rattle.plan_checker.proofs.NameLaws.{IsOnceIn, name_at, placed_once, same_names}
 use Rattle.plan_checker.proofs.PlacedLaws.{all_placed, each_bound}
 use Rattle.plan_checker.proofs.SiteLaws.{own_sites}
-use Rattle.plan_checker.proofs.SolvingLaws.{IsBound, each_first, each_rest, tables_solve}
+use Rattle.plan_checker.proofs.SolvingLaws.{each_first, each_rest, tables_solve}
 
 own_names : (ns : List Node) → filter_map name_of (filter is_own ns) ≡ filter_map name_of ns
 own_names [] = refl

@@ -1,15 +1,15 @@
 -- Once each fragment's table has what its tree gives, the last one's has the solutions over all atoms.
-use Rattle.std.proofs.Common.{◌≡◌, ℕ, zero, suc, ◌-◌, ◌==◌, ◌||◌, ◌&&◌, Bool, true, false, List, [], ◌∷◌, ◌++◌, flat_map, map, length, Option, Some, None, append_assoc, append-nil, length-append, arith, refl, sym, ap, ap₂, subst, ◌∙◌, true≢false}
+use Rattle.std.proofs.Common.{◌≡◌, ℕ, zero, suc, ◌-◌, ◌==◌, ◌||◌, ◌&&◌, Bool, true, false, List, [], ◌∷◌, ◌++◌, flat_map, map, length, Some, append_assoc, append-nil, length-append, arith, refl, sym, ap, ap₂, subst, ◌∙◌, true≢false}
 use mathlib.Core.Path.{fun_ext}
 use Rattle.std.specs.Prelude.{All, slice_get}
-use Rattle.std.specs.List.{AllByRecursion, filter_map, list_all}
+use Rattle.std.specs.List.{AllByRecursion, filter_map}
 use Rattle.std.proofs.lemmas.Bool.{eqb-true}
 use Rattle.std.proofs.lemmas.List.{map-append}
 use Rattle.std.proofs.lemmas.List.Elements.{All-from_recursion, filter_map-append}
 use Rattle.answer_theory.specs.Bags.{SameBag, numbers_from}
 use Rattle.answer_theory.specs.Bindings.{Binding, value_of}
 use Rattle.answer_theory.specs.Solutions.{Binds, ReadsOnly, names, solutions, valuations}
-use Rattle.answer_theory.specs.Trees.{Tree, Leaf, Scan, Join, Holds, IsPlaced, IsRowOf, ScansHold, expansion, given_rows, leaves, no_tables, tests, variables}
+use Rattle.answer_theory.specs.Trees.{Tree, Join, Holds, IsPlaced, ScansHold, expansion, given_rows, leaves, no_tables, tests, variables}
 use Rattle.answer_theory.proofs.Bags.{bag_from_same, bag_map, bag_trans}
 use Rattle.answer_theory.proofs.Bools.{and_assoc, nat_eq_self}
 use Rattle.answer_theory.proofs.Held.{held_rows}
@@ -28,19 +28,18 @@ use Rattle.row_match.specs.Filters.{all_hold, comparison_variables, holds_in}
 use Rattle.row_match.specs.Patterns.{pattern_variables, values_join}
 use Rattle.row_match.specs.declared.filter.Comparison.{Comparison}
 use Rattle.row_match.proofs.Reading.{reads_comparisons}
-use Rattle.query_core.specs.Answers.{item_entries, item_fits, items, items_of, leaf_of, leaf_rows, solutions_of}
+use Rattle.query_core.specs.Answers.{leaf_rows, solutions_of}
 use Rattle.query_core.proofs.Heads.{leaf_binds_variables}
 use Rattle.query_core.specs.declared.query.Atom.{Atom}
 use Rattle.query_core.specs.declared.query.Query.{Query}
-use Rattle.join_trees.specs.Shapes.{Shape, tip, fork, no_tree, nodes_of}
+use Rattle.join_trees.specs.Shapes.{Shape, tip, fork, nodes_of}
 use Rattle.join_trees.specs.declared.tree.Leaf.TheVariants as leaf
-use Rattle.join_trees.specs.declared.tree.Node.{Node}
 use Rattle.join_trees.specs.declared.tree.Node.TheVariants as node
 use Rattle.plan_reader.specs.declared.plan.Fragment.{Fragment}
-use Rattle.plan_checker.specs.Covers.{IsMade, expanded, last_of, made_after, whole_tree}
+use Rattle.plan_checker.specs.Covers.{IsMade, expanded}
 use Rattle.plan_checker.specs.Places.{atom_site, atoms_under, site}
 use Rattle.plan_checker.specs.Solving.{AreAsWide, AreFilled, atom_variables, joined_tree, leaf_at, name_of, names_in, placed_at, rows_in, terms_variables, tested_in, variables_under}
-use Rattle.plan_checker.specs.Uses.{atom_of, atoms_used, fragments_used, nodes_in, numbers_of}
+use Rattle.plan_checker.specs.Uses.{atom_of, atoms_used, fragments_used, numbers_of}
 use Rattle.plan_checker.specs.declared.walking.Site.{Site}
 use Rattle.plan_checker.proofs.BoundLaws.{AreBound}
 use Rattle.plan_checker.proofs.CoverLaws.{AreOrdered, all_named, either_first, named_first, named_second, names-append, used_in_join}

@@ -1,5 +1,5 @@
 -- Going through a tree's nodes gives its joins, each with the atoms under it.
-use Rattle.std.proofs.Common.{◌≡◌, ℕ, List, [], ◌∷◌, ◌++◌, append_assoc, append-nil, refl, sym, ap, ap₂, subst, ◌∙◌}
+use Rattle.std.proofs.Common.{◌≡◌, ℕ, List, [], ◌∷◌, ◌++◌, append_assoc, append-nil, sym, ap, ap₂, ◌∙◌}
 use Rattle.med_base.specs.declared.names.Name.TheVariants as name
 use Rattle.join_trees.specs.Shapes.{Shape, tip, fork, nodes_of}
 use Rattle.join_trees.specs.declared.tree.Leaf.TheVariants as leaf
@@ -8,7 +8,6 @@ use Rattle.join_trees.specs.declared.tree.Node.TheVariants as node
 use Rattle.plan_reader.specs.declared.plan.Fragment.{Fragment}
 use Rattle.plan_checker.specs.Places.{Finished, all_join_sites, atoms_under, join_sites, site, with_fragment}
 use Rattle.plan_checker.specs.Walks.{top, walk, with_nodes}
-use Rattle.plan_checker.specs.declared.walking.FinishedFragment.{FinishedFragment}
 use Rattle.plan_checker.specs.declared.walking.Site.{Site}
 use Rattle.plan_checker.specs.declared.walking.Walk.{Walk}
 

@@ -1,7 +1,7 @@
 -- What it means that fragments cover a query.
-use Rattle.std.specs.Prelude.{◌≡◌, ℕ, ◌==◌, not, cond, Bool, true, false, List, [], ◌∷◌, ◌++◌, filter}
+use Rattle.std.specs.Prelude.{◌≡◌, ℕ, ◌==◌, cond, Bool, true, false, List, [], ◌∷◌, ◌++◌, filter}
 use Rattle.std.specs.List.{AllByRecursion, filter_map}
-use Rattle.answer_theory.specs.Bags.{SameBag, numbers_from, weight_of}
+use Rattle.answer_theory.specs.Bags.{SameBag, numbers_from}
 use Rattle.join_trees.specs.Shapes.{Shape, tip, fork, nodes_of, no_tree}
 use Rattle.join_trees.specs.declared.tree.Leaf.TheVariants as leaf
 use Rattle.join_trees.specs.declared.tree.Node.{Node}

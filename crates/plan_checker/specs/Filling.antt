@@ -1,5 +1,5 @@
 -- The fragment that a plan gets that names none: all atoms joined, in their order.
-use Rattle.std.specs.Prelude.{ℕ, zero, suc, ◌+◌, ◌-◌, ◌==◌, List, [], ◌∷◌, length, None, if◌then◌else◌}
+use Rattle.std.specs.Prelude.{ℕ, zero, suc, ◌-◌, ◌==◌, List, [], ◌∷◌, length, None, if◌then◌else◌}
 use Rattle.join_trees.specs.Shapes.{Shape, tip, fork}
 use Rattle.join_trees.specs.declared.tree.Leaf.TheVariants as leaf
 use Rattle.toml.specs.Data.{no_members}

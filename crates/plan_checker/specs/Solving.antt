@@ -20,7 +20,7 @@ use Rattle.join_trees.specs.declared.tree.Leaf.TheVariants as leaf
 use Rattle.join_trees.specs.declared.tree.Node.{Node}
 use Rattle.join_trees.specs.declared.tree.Node.TheVariants as node
 use Rattle.plan_reader.specs.declared.plan.Fragment.{Fragment}
-use Rattle.plan_checker.specs.Covers.{last_of, made_after, whole_tree}
+use Rattle.plan_checker.specs.Covers.{last_of, made_after}
 use Rattle.plan_checker.specs.Places.{atoms_under}
 use Rattle.plan_checker.specs.Uses.{numbers_of}
 

@@ -1,4 +1,4 @@
-use Rattle.std.proofs.Common.{◌≡◌, ℕ, ◌+◌, ◌-◌, ◌≤◌, List, [], ◌∷◌, ◌++◌, drop, map, take}
+use Rattle.std.proofs.Common.{◌≡◌, ◌-◌, [], ◌∷◌}
 use Rattle.plan_checker.specs.Filling.{left_deep}
 use Rattle.plan_checker.proofs.filling.left_deep.Given as goal
 

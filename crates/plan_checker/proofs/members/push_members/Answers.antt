@@ -1,4 +1,4 @@
-use Rattle.std.proofs.Common.{◌≡◌, ◌∙◌}
+use Rattle.std.proofs.Common.{◌∙◌}
 use Rattle.plan_checker.specs.Members.{member_name}
 use Rattle.plan_checker.proofs.CountLaws.{made_of_more}
 use Rattle.plan_checker.proofs.members.push_members.Goals as goal

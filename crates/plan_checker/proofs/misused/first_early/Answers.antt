@@ -1,4 +1,4 @@
-use Rattle.std.proofs.Common.{◌≡◌, arith, sym, ◌∙◌}
+use Rattle.std.proofs.Common.{arith, sym, ◌∙◌}
 use Rattle.plan_checker.proofs.LeastLaws.{first_early}
 use Rattle.plan_checker.proofs.misused.first_early.Goals as goal
 

@@ -1,4 +1,4 @@
-use Rattle.std.proofs.Common.{◌≡◌, arith, sym, ◌∙◌}
+use Rattle.std.proofs.Common.{arith, ◌∙◌}
 use Rattle.plan_checker.proofs.LeastLaws.{first_misused}
 use Rattle.plan_checker.proofs.misused.first_misused.Goals as goal
 use Rattle.plan_checker.proofs.misused.first_misused.Goals.{then-index-numbers, else-index-numbers}

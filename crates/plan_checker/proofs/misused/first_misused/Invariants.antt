@@ -1,4 +1,4 @@
-use Rattle.std.proofs.Common.{◌≡◌, ℕ, ◌+◌, ◌-◌, ◌≤◌, List, [], ◌∷◌, ◌++◌, drop, map, take}
+use Rattle.std.proofs.Common.{◌≡◌, drop}
 use Rattle.plan_checker.specs.Uses.{misused_from}
 use Rattle.plan_checker.proofs.misused.first_misused.Given as goal
 

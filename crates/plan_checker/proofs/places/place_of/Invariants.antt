@@ -1,4 +1,4 @@
-use Rattle.std.proofs.Common.{◌≡◌, ℕ, ◌+◌, ◌-◌, ◌≤◌, List, [], ◌∷◌, ◌++◌, drop, map, take}
+use Rattle.std.proofs.Common.{◌≡◌, drop}
 use Rattle.plan_checker.specs.Places.{place_of}
 use Rattle.plan_checker.proofs.places.place_of.Given as goal
 

@@ -1,4 +1,4 @@
-use Rattle.std.proofs.Common.{◌≡◌, ℕ, ◌+◌, ◌-◌, ◌≤◌, List, [], ◌∷◌, ◌++◌, drop, map, take}
+use Rattle.std.proofs.Common.{◌≡◌}
 use Rattle.answer_theory.specs.Bags.{numbers_from}
 use Rattle.plan_checker.proofs.uses.atom_numbers.Given as goal
 

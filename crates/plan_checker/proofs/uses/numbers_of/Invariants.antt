@@ -1,4 +1,4 @@
-use Rattle.std.proofs.Common.{◌≡◌, ℕ, ◌+◌, ◌-◌, ◌≤◌, List, [], ◌∷◌, ◌++◌, drop, map, take}
+use Rattle.std.proofs.Common.{◌≡◌, ◌++◌, drop}
 use Rattle.plan_checker.specs.Uses.{numbers_of}
 use Rattle.plan_checker.proofs.uses.numbers_of.Given as goal
 

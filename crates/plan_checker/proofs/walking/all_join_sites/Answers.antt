@@ -1,4 +1,4 @@
-use Rattle.std.proofs.Common.{◌≡◌, ℕ, suc, ◌+◌, ◌++◌, ◌∷◌, List, drop, get_or, arith, sym, ap, ◌∙◌, drop-cons}
+use Rattle.std.proofs.Common.{◌≡◌, suc, ◌+◌, ◌++◌, ◌∷◌, drop, arith, sym, ap, ◌∙◌, drop-cons}
 use Rattle.plan_reader.specs.declared.plan.Fragment.{Fragment}
 use Rattle.plan_checker.specs.Places.{all_join_sites}
 use Rattle.plan_checker.proofs.WalkLaws.{one_tree_more}

@@ -1,4 +1,4 @@
-use Rattle.std.proofs.Common.{◌≡◌, ℕ, ◌+◌, ◌-◌, ◌≤◌, List, [], ◌∷◌, ◌++◌, drop, map, take}
+use Rattle.std.proofs.Common.{◌≡◌, [], ◌++◌, drop}
 use Rattle.plan_checker.specs.Places.{all_join_sites}
 use Rattle.plan_checker.proofs.walking.all_join_sites.Given as goal
 

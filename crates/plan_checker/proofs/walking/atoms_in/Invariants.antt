@@ -1,4 +1,4 @@
-use Rattle.std.proofs.Common.{◌≡◌, ℕ, ◌+◌, ◌-◌, ◌≤◌, List, [], ◌∷◌, ◌++◌, drop, map, take}
+use Rattle.std.proofs.Common.{◌≡◌, drop}
 use Rattle.plan_checker.specs.Places.{atoms_in}
 use Rattle.plan_checker.proofs.walking.atoms_in.Given as goal
 

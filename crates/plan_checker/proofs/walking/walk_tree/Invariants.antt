@@ -1,4 +1,4 @@
-use Rattle.std.proofs.Common.{◌≡◌, ℕ, ◌+◌, ◌-◌, ◌≤◌, List, [], ◌∷◌, ◌++◌, drop, map, take}
+use Rattle.std.proofs.Common.{◌≡◌, [], drop}
 use Rattle.plan_checker.specs.Walks.{walk, with_nodes}
 use Rattle.plan_checker.proofs.walking.walk_tree.Given as goal
 
