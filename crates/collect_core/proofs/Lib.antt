@@ -1,0 +1,5 @@
+pub mod Taking
+pub mod Lefts
+pub mod Pulling
+pub mod Places
+pub mod Gathering

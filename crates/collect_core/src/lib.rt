@@ -1,0 +1,12 @@
+//! The members of one atom, and the rows that it selects of theirs.
+#![tactic(auto)]
+
+mod collector;
+mod member;
+mod reader;
+mod selection;
+
+pub use collector::AtomCollector;
+pub use member::{Member, MemberNow};
+pub use reader::{Collected, Reader};
+pub use selection::Selection;
