@@ -1,10 +1,12 @@
 -- The members of a collector: their soundness, and what one step adds.
 use Rattle.std.proofs.Common.{◌≡◌, ℕ, ◌+◌, ◌<◌, ◌≤◌, ◌⊎◌, inl, inr, Bool, true, false, List, [], ◌∷◌, ◌++◌, length, set, flat_map, Option, Some, None, IfSome, refl, sym, ap, subst, ◌∙◌, arith, append-nil}
 use Rattle.std.specs.List.{AllByRecursion, AllZip, cons_option, filter_map, slice_get, slice_index_or}
+use Rattle.std.specs.Option.{MatchOption}
 use Rattle.std.specs.Prelude.{option_map}
 use Rattle.answer_theory.specs.Bags.{SameBag, weight_of}
 use Rattle.answer_theory.proofs.Bags.{bag_append, bag_from_same, bag_refl, bag_trans}
 use Rattle.answer_theory.proofs.Lists.{each_then}
+use Rattle.med_base.specs.declared.member.MemberState.TheVariants as state
 use Rattle.med_base.specs.declared.names.MemberName.{MemberName}
 use Rattle.med_base.specs.declared.outside.source.Source.{Ghosts as Source}
 use Rattle.tuple_core.specs.declared.columns.Column.{Column}
@@ -12,13 +14,14 @@ use Rattle.tuple_core.specs.Values.{RowList, RowValues}
 use Rattle.csv_wrap.specs.Sound.{IsSoundMember, IsSoundState, IsSoundWith}
 use Rattle.csv_wrap.specs.Wrapped.{SameSource}
 use Rattle.collect_core.specs.Collecting.{Collecting, IsCollector, work_left}
-use Rattle.collect_core.specs.Members.{AreSound, HasAccepted, IsMember, Member, MemberAccepted, end_of, member_left, member_now_with}
-use Rattle.collect_core.specs.Reading.{IsReader, Reader, ReaderAccepted, reader_left}
+use Rattle.collect_core.specs.Giving.{GivesMember}
+use Rattle.collect_core.specs.Members.{AreSound, HasAccepted, IsMember, Member, MemberAccepted, end_of, member_left, member_now, member_now_with}
+use Rattle.collect_core.specs.Reading.{HasBegun, IsReader, Reader, ReaderAccepted, reader_left}
 use Rattle.collect_core.specs.Selecting.{Select, selected_row, selected_rows}
 use Rattle.collect_core.specs.Steps.{CollectorStep, Falls, Gathers, GrewTo, ReadsOn, Steps, StepsMember, gave, given_rows, with_rows}
 use Rattle.collect_core.specs.declared.reader.Collected.{Collected}
 use Rattle.collect_core.specs.declared.reader.Collected.TheVariants as collected
-use Rattle.collect_core.proofs.Places.{all_at, all_set, bag_set, filter_map_append, weight_set, zip_at, zip_self_set, zip_set, zip_there}
+use Rattle.collect_core.proofs.Places.{all_set, bag_set, filter_map_append, stands_at, weight_set, zip_at, zip_self_set, zip_set, zip_set_left, zip_there}
 
 -- ---- soundness
 
@@ -117,3 +120,63 @@ pub work_falls : {S M : Type 0} (source : Source S M) (members : List (Member S)
 work_falls source members index old new result at h =
     falls_set (weight_of (member_left source) members) (weight_of (member_left source) (set members index new)) (member_left source old) (member_left source new) result
     (weight_set (member_left source) members index old new at) h
+
+-- ---- one member's step
+
+pub member_steps : {S M : Type 0} (source : Source S M) (select : Select) (old : Member S) (r q : Reader S) (result : Collected) → old.reader ≡ Some r
+    → SameSource source r.wrapper.source q.wrapper.source → ReadsOn source select r q result → StepsMember source select old (record old { reader = Some q }) result
+member_steps {S = S} source select old r q result e same reads =
+    subst (λ o. MatchOption o ((result ≡ collected.Still) × (record old { reader = Some q } ≡ old))
+    (λ (u : Reader S). (v : Reader S) × (record old { reader = Some q } ≡ record old { reader = Some v }) × SameSource source u.wrapper.source v.wrapper.source × ReadsOn source select u v result)) (sym e)
+    (q, refl, same, reads)
+
+pub member_idle : {S M : Type 0} (source : Source S M) (select : Select) (old : Member S) → old.reader ≡ None → StepsMember source select old old collected.Still
+member_idle {S = S} source select old e =
+    subst (λ o. MatchOption o ((collected.Still ≡ collected.Still) × (old ≡ old))
+    (λ (u : Reader S). (v : Reader S) × (old ≡ record old { reader = Some v }) × SameSource source u.wrapper.source v.wrapper.source × ReadsOn source select u v collected.Still)) (sym e)
+    (refl, refl)
+
+-- ---- one member of a collector
+
+pub stepped : {S M : Type 0} (source : Source S M) (s : Collecting S) (index : ℕ) (old new : Member S) (result : Collected) → index < length s.members → old ≡ slice_index_or s.members index old
+    → StepsMember source s.select old new result → Steps source s (record s { members = set s.members index new }) index result
+stepped source s index old new result inside is steps = record {
+  old = old;
+  new = new;
+  at = stands_at s.members index old inside is;
+  changed = refl;
+  step = steps;
+}
+
+pub changed_sound : {S M : Type 0} (source : Source S M) (columns : List Column) (members : List (Member S)) (index : ℕ) (new : Member S) → AllByRecursion (IsMember source columns) members
+    → IsMember source columns new → AreSound source columns (set members index new)
+changed_sound source columns members index new all is = members_sound source columns (set members index new) (all_set (IsMember source columns) members index new all is)
+
+-- ---- a member whose opening failed
+
+pub opening_kept : {S M : Type 0} (source : Source S M) (members : List (Member S)) (index : ℕ) (old new : Member S) (accepted : List RowList) → slice_get members index ≡ Some old
+    → new ≡ record old { opening_failed = true } → HasAccepted source members accepted → HasAccepted source (set members index new) accepted
+opening_kept source members index old new accepted at is has =
+    zip_set_left (MemberAccepted source) members accepted index old new at (λ rows h. subst (λ m. MemberAccepted source m rows) (sym is) h) has
+
+-- ---- a member that is given a source
+
+idle_with : {S M : Type 0} (source : Source S M) (columns : List Column) (name : MemberName) (location : List ℕ) (failed : Bool) (reader : Option (Reader S))
+    → IsMember source columns (record { name = name; location = location; opening_failed = failed; reader = reader })
+    → (member_now_with failed reader).state ≡ state.Idle → reader ≡ None
+idle_with source columns name location failed None is idle = refl
+idle_with source columns name location failed (Some r) is idle = absurd (subst HasBegun idle is.0.begun)
+
+pub idle_none : {S M : Type 0} (source : Source S M) (columns : List Column) (m : Member S) → IsMember source columns m → (member_now m).state ≡ state.Idle → m.reader ≡ None
+idle_none source columns m is idle = idle_with source columns m.name m.location m.opening_failed m.reader is idle
+
+pub given_member : {S M : Type 0} (source : Source S M) (columns : List Column) (s : S) (old new : Member S) → old.location ≡ source.location s → GivesMember source columns s old new
+    → IsMember source columns new
+given_member source columns s old new at gives =
+    subst (IsMember source columns) (sym gives.2) (gives.1.reader, gives.1.columns_is, ap source.location gives.1.source_is ∙ sym at)
+
+pub given_kept : {S M : Type 0} (source : Source S M) (columns : List Column) (s : S) (old new : Member S) (rows : RowList) → old.reader ≡ None → GivesMember source columns s old new
+    → MemberAccepted source old rows → MemberAccepted source new rows
+given_kept source columns s old new rows none gives h =
+    let empty : rows ≡ [] = subst (λ o. MatchOption o (rows ≡ []) (λ r. ReaderAccepted source r rows)) none h in
+    subst (λ m. MemberAccepted source m rows) (sym gives.2) (subst (ReaderAccepted source gives.0) (sym empty) gives.1.accepted)

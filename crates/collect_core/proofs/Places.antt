@@ -1,6 +1,7 @@
 -- Lists of which one item changes.
 use Rattle.std.proofs.Common.{◌≡◌, ℕ, zero, suc, ◌+◌, ◌<◌, ◌≤◌, Bool, List, [], ◌∷◌, ◌++◌, length, set, flat_map, Option, Some, None, refl, sym, ap, subst, ◌∙◌, arith, append-nil, append_assoc}
 use Rattle.std.specs.List.{AllByRecursion, AllZip, cons_option, filter_map, slice_get, slice_index_or}
+use Rattle.std.specs.Prelude.{IsSomeAnd}
 use Rattle.answer_theory.specs.Bags.{SameBag, weight_of}
 use Rattle.answer_theory.proofs.Bags.{bag_append, bag_append_comm, bag_from_same, bag_refl, bag_trans}
 
@@ -74,3 +75,24 @@ cons_append (Some x) xs ys = refl
 pub filter_map_append : {X Y : Type 0} (h : X → Option Y) (xs ys : List X) → filter_map h (xs ++ ys) ≡ filter_map h xs ++ filter_map h ys
 filter_map_append h [] ys = refl
 filter_map_append h (x ∷ xs) ys = ap (cons_option (h x)) (filter_map_append h xs ys) ∙ cons_append (h x) (filter_map h xs) (filter_map h ys)
+
+-- what was read at an index stands there
+pub stands_at : {X : Type 0} (xs : List X) (i : ℕ) (x : X) → i < length xs → x ≡ slice_index_or xs i x → slice_get xs i ≡ Some x
+stands_at [] i x inside is = absurd (omega arith)
+stands_at (y ∷ ys) zero x inside is = ap Some (sym is)
+stands_at (y ∷ ys) (suc i) x inside is = stands_at ys i x (omega arith) is
+
+pub stands_inside : {X : Type 0} (xs : List X) (i : ℕ) (x : X) → slice_get xs i ≡ Some x → i < length xs
+stands_inside [] i x e = cc
+stands_inside (y ∷ ys) zero x e = omega arith
+stands_inside (y ∷ ys) (suc i) x e = let below = stands_inside ys i x e in omega arith
+
+some_and : {X : Type 0} (o : Option X) (P : X → Type 0) → IsSomeAnd o P → (x : X) × (o ≡ Some x) × P x
+some_and None P h = absurd h
+some_and (Some x) P h = (x, refl, h)
+
+pub some_inside : {X : Type 0} (P : X → Type 0) (xs : List X) (i : ℕ) → IsSomeAnd (slice_get xs i) P → i < length xs
+some_inside P xs i h = let there = some_and (slice_get xs i) P h in stands_inside xs i there.0 there.1
+
+pub some_holds : {X : Type 0} (P : X → Type 0) (o : Option X) (x : X) → o ≡ Some x → IsSomeAnd o P → P x
+some_holds P o x e h = subst (λ p. IsSomeAnd p P) e h

@@ -114,7 +114,8 @@ impl<S: Source> AtomCollector<S> {
         ensures accepted { (accepted : List RowList) → HasAccepted S.Source self.old.members accepted → HasAccepted S.Source self.new.members accepted }
         ensures sound { AreSound S.Source self.new.columns self.new.members }
     {
-        self.members[index].give(alloc, source, &self.columns)
+        self.members[index].give(alloc, source, &self.columns)?;
+        Ok(())
     }
 
     /// A member that was not opened yet couldn't be opened.
