@@ -1,11 +1,12 @@
 -- The members of a collector: their soundness, and what one step adds.
-use Rattle.std.proofs.Common.{◌≡◌, ℕ, ◌+◌, ◌<◌, ◌≤◌, ◌⊎◌, inl, inr, Bool, true, false, List, [], ◌∷◌, ◌++◌, length, set, flat_map, Option, Some, None, IfSome, refl, sym, ap, subst, ◌∙◌, arith, append-nil}
+use Rattle.std.proofs.Common.{◌≡◌, ℕ, ◌+◌, ◌<◌, ◌≤◌, ◌⊎◌, inl, inr, Bool, true, false, List, [], ◌∷◌, ◌++◌, length, set, drop, replicate, flat_map, Option, Some, None, IfSome, refl, sym, ap, subst, ◌∙◌, arith, append-nil}
 use Rattle.std.specs.List.{AllByRecursion, AllZip, cons_option, filter_map, slice_get, slice_index_or}
 use Rattle.std.specs.Option.{MatchOption}
 use Rattle.std.specs.Prelude.{option_map}
+use Rattle.std.proofs.lemmas.List.{drop_all}
 use Rattle.answer_theory.specs.Bags.{SameBag, weight_of}
 use Rattle.answer_theory.proofs.Bags.{bag_append, bag_from_same, bag_refl, bag_trans}
-use Rattle.answer_theory.proofs.Lists.{each_then}
+use Rattle.answer_theory.proofs.Lists.{each_append, each_then}
 use Rattle.med_base.specs.declared.member.MemberState.TheVariants as state
 use Rattle.med_base.specs.declared.names.MemberName.{MemberName}
 use Rattle.med_base.specs.declared.outside.source.Source.{Ghosts as Source}
@@ -14,14 +15,14 @@ use Rattle.tuple_core.specs.Values.{RowList, RowValues}
 use Rattle.csv_wrap.specs.Sound.{IsSoundMember, IsSoundState, IsSoundWith}
 use Rattle.csv_wrap.specs.Wrapped.{SameSource}
 use Rattle.collect_core.specs.Collecting.{Collecting, IsCollector, work_left}
-use Rattle.collect_core.specs.Giving.{GivesMember}
-use Rattle.collect_core.specs.Members.{AreSound, HasAccepted, IsMember, Member, MemberAccepted, end_of, member_left, member_now, member_now_with}
+use Rattle.collect_core.specs.Giving.{FailsOpening, Gives, GivesMember, IsAt, IsIdleAt}
+use Rattle.collect_core.specs.Members.{AreSound, HasAccepted, IsMember, Member, MemberAccepted, end_of, fresh_group, fresh_members, member_left, member_now, member_now_with}
 use Rattle.collect_core.specs.Reading.{HasBegun, IsReader, Reader, ReaderAccepted, reader_left}
 use Rattle.collect_core.specs.Selecting.{Select, selected_row, selected_rows}
 use Rattle.collect_core.specs.Steps.{CollectorStep, Falls, Gathers, GrewTo, ReadsOn, Steps, StepsMember, gave, given_rows, with_rows}
 use Rattle.collect_core.specs.declared.reader.Collected.{Collected}
 use Rattle.collect_core.specs.declared.reader.Collected.TheVariants as collected
-use Rattle.collect_core.proofs.Places.{all_set, bag_set, filter_map_append, stands_at, weight_set, zip_at, zip_self_set, zip_set, zip_set_left, zip_there}
+use Rattle.collect_core.proofs.Places.{all_at, all_set, bag_set, filter_map_append, some_holds, some_inside, stands_at, weight_set, zip_at, zip_self_set, zip_set, zip_set_left, zip_there}
 
 -- ---- soundness
 
@@ -180,3 +181,98 @@ pub given_kept : {S M : Type 0} (source : Source S M) (columns : List Column) (s
 given_kept source columns s old new rows none gives h =
     let empty : rows ≡ [] = subst (λ o. MatchOption o (rows ≡ []) (λ r. ReaderAccepted source r rows)) none h in
     subst (λ m. MemberAccepted source m rows) (sym gives.2) (subst (ReaderAccepted source gives.0) (sym empty) gives.1.accepted)
+
+pub fails_opening : {S : Type 0} (s : Collecting S) (index : ℕ) (old new : Member S) → index < length s.members → old ≡ slice_index_or s.members index old → new ≡ record old { opening_failed = true }
+    → FailsOpening s (record s { members = set s.members index new }) index
+fails_opening s index old new inside is e = record {
+  old = old;
+  at = stands_at s.members index old inside is;
+  changed = ap (λ m. record s { members = set s.members index m }) e;
+}
+
+pub changed_collector : {S M : Type 0} (source : Source S M) (s : Collecting S) (index : ℕ) (new : Member S) → IsCollector source s → IsMember source s.columns new
+    → IsCollector source (record s { members = set s.members index new })
+changed_collector source s index new is member = record {
+  members = all_set (IsMember source s.columns) s.members index new is.members member;
+  width = is.width;
+  short = is.short;
+}
+
+pub gives_source : {S M : Type 0} (source : Source S M) (s : Collecting S) (index : ℕ) (given : S) (old new : Member S) → slice_get s.members index ≡ Some old
+    → GivesMember source s.columns given old new → Gives source s (record s { members = set s.members index new }) index given
+gives_source source s index given old new at gives = record {
+  old = old;
+  new = new;
+  at = at;
+  changed = refl;
+  gives = gives;
+}
+
+-- the member that is given a source, of a collector that stands
+pub record GivingTo {S M : Type 0} (source : Source S M) (s : Collecting S) (index : ℕ) (given : S) (old new : Member S) : Type 0 where
+  pub collector : IsCollector source (record s { members = set s.members index new })
+  pub gives : Gives source s (record s { members = set s.members index new }) index given
+  pub accepted : (accepted : List RowList) → HasAccepted source s.members accepted → HasAccepted source (set s.members index new) accepted
+  pub sound : AreSound source s.columns (set s.members index new)
+
+pub giving_to : {S M : Type 0} (source : Source S M) (s : Collecting S) (index : ℕ) (given : S) (old new : Member S) → IsCollector source s → IsIdleAt s.members index
+    → IsAt s.members index (source.location given) → old ≡ slice_index_or s.members index old → GivesMember source s.columns given old new → GivingTo source s index given old new
+giving_to {S = S} source s index given old new is idle at reads gives =
+    let inside = some_inside (λ (m : Member S). (member_now m).state ≡ state.Idle) s.members index idle in
+    let there : slice_get s.members index ≡ Some old = stands_at s.members index old inside reads in
+    let was = all_at (IsMember source s.columns) s.members index old there is.members in
+    let none = idle_none source s.columns old was (some_holds (λ (m : Member S). (member_now m).state ≡ state.Idle) (slice_get s.members index) old there idle) in
+    let location = some_holds (λ (m : Member S). m.location ≡ source.location given) (slice_get s.members index) old there at in
+    let member = given_member source s.columns given old new location gives in
+    record {
+      collector = changed_collector source s index new is member;
+      gives = gives_source source s index given old new there gives;
+      accepted = λ accepted has. zip_set_left (MemberAccepted source) s.members accepted index old new there (λ rows h. given_kept source s.columns given old new rows none gives h) has;
+      sound = changed_sound source s.columns s.members index new is.members member;
+    }
+
+-- ---- a collector of which no member was opened
+
+one_more_fresh : {S M : Type 0} (source : Source S M) (columns : List Column) (atom group mirror : ℕ) (locations : List (List ℕ)) → AllByRecursion (IsMember source columns) (fresh_group {S = S} atom group mirror locations)
+one_more_fresh source columns atom group mirror [] = tt
+one_more_fresh source columns atom group mirror (location ∷ locations) = (tt, one_more_fresh source columns atom group (mirror + 1) locations)
+
+fresh_are : {S M : Type 0} (source : Source S M) (columns : List Column) (atom group : ℕ) (groups : List (List (List ℕ))) → AllByRecursion (IsMember source columns) (fresh_members {S = S} atom group groups)
+fresh_are source columns atom group [] = tt
+fresh_are {S} source columns atom group (locations ∷ groups) =
+    each_append (IsMember source columns) (fresh_group {S = S} atom group 1 locations) (fresh_members {S = S} atom (group + 1) groups) (one_more_fresh source columns atom group 1 locations) (fresh_are source columns atom (group + 1) groups)
+
+unread_group : (S : Type 0) (atom group mirror : ℕ) (locations : List (List ℕ)) → AllByRecursion (λ (m : Member S). m.reader ≡ None) (fresh_group {S = S} atom group mirror locations)
+unread_group S atom group mirror [] = tt
+unread_group S atom group mirror (location ∷ locations) = (refl, unread_group S atom group (mirror + 1) locations)
+
+unread_members : (S : Type 0) (atom group : ℕ) (groups : List (List (List ℕ))) → AllByRecursion (λ (m : Member S). m.reader ≡ None) (fresh_members {S = S} atom group groups)
+unread_members S atom group [] = tt
+unread_members S atom group (locations ∷ groups) =
+    each_append (λ (m : Member S). m.reader ≡ None) (fresh_group {S = S} atom group 1 locations) (fresh_members {S = S} atom (group + 1) groups) (unread_group S atom group 1 locations) (unread_members S atom (group + 1) groups)
+
+no_rows : {S M : Type 0} (source : Source S M) (o : Option (Reader S)) (rows : RowList) → rows ≡ [] → o ≡ None → MatchOption o (rows ≡ []) (λ r. ReaderAccepted source r rows)
+no_rows source None rows e none = e
+no_rows source (Some r) rows e none = absurd (let clash : Some r ≡ None = none in cc)
+
+nothing_accepted : {S M : Type 0} (source : Source S M) (members : List (Member S)) → AllByRecursion (λ (m : Member S). m.reader ≡ None) members → HasAccepted source members (replicate (length members) [])
+nothing_accepted source [] h = tt
+nothing_accepted source (m ∷ members) h = (no_rows source m.reader [] refl h.0, nothing_accepted source members h.1)
+
+-- once all groups are listed
+pub all_listed : {S : Type 0} (members : List (Member S)) (atom index : ℕ) (groups : List (List (List ℕ))) → length groups ≤ index
+    → members ++ fresh_members atom (index + 1) (drop index groups) ≡ fresh_members atom 1 groups → members ≡ fresh_members atom 1 groups
+all_listed {S} members atom index groups past is =
+    sym (append-nil members) ∙ ap (λ gs. members ++ fresh_members {S = S} atom (index + 1) gs) (sym (drop_all index groups past)) ∙ is
+
+pub fresh_collector : {S M : Type 0} (source : Source S M) (columns : List Column) (select : Select) (members : List (Member S)) (atom : ℕ) (groups : List (List (List ℕ)))
+    → members ≡ fresh_members atom 1 groups → length columns ≡ length select.terms → length columns ≤ 64 → IsCollector source (record { columns = columns; select = select; members = members })
+fresh_collector source columns select members atom groups is wide short = record {
+  members = subst (AllByRecursion (IsMember source columns)) (sym is) (fresh_are source columns atom 1 groups);
+  width = wide;
+  short = short;
+}
+
+pub fresh_accepted : {S M : Type 0} (source : Source S M) (members : List (Member S)) (atom : ℕ) (groups : List (List (List ℕ))) → members ≡ fresh_members atom 1 groups
+    → HasAccepted source members (replicate (length members) [])
+fresh_accepted {S} source members atom groups is = nothing_accepted source members (subst (AllByRecursion (λ (m : Member S). m.reader ≡ None)) (sym is) (unread_members S atom 1 groups))

@@ -3,3 +3,5 @@ pub mod Lefts
 pub mod Pulling
 pub mod Places
 pub mod Gathering
+pub mod Telling
+pub mod Leaves

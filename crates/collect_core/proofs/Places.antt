@@ -96,3 +96,21 @@ some_inside P xs i h = let there = some_and (slice_get xs i) P h in stands_insid
 
 pub some_holds : {X : Type 0} (P : X → Type 0) (o : Option X) (x : X) → o ≡ Some x → IsSomeAnd o P → P x
 some_holds P o x e h = subst (λ p. IsSomeAnd p P) e h
+
+pub set_same : {X : Type 0} (xs : List X) (i : ℕ) (x : X) → slice_get xs i ≡ Some x → set xs i x ≡ xs
+set_same [] i x e = refl
+set_same (y ∷ ys) zero x e = let same : x ≡ y = cc in ap (λ w. w ∷ ys) same
+set_same (y ∷ ys) (suc i) x e = ap (λ w. y ∷ w) (set_same ys i x e)
+
+-- what holds of the items of one list, and of those of two, together
+pub zip_from : {X Y : Type 0} (P : X → Type 0) (R Q : X → Y → Type 0) → ((x : X) (y : Y) → P x → R x y → Q x y) → (xs : List X) (ys : List Y) → AllByRecursion P xs → AllZip R xs ys → AllZip Q xs ys
+zip_from P R Q f [] [] p r = tt
+zip_from P R Q f [] (y ∷ ys) p r = absurd r
+zip_from P R Q f (x ∷ xs) [] p r = absurd r
+zip_from P R Q f (x ∷ xs) (y ∷ ys) p r = (f x y p.0 r.0, zip_from P R Q f xs ys p.1 r.1)
+
+pub zip_right : {X Y : Type 0} (P : X → Type 0) (R : X → Y → Type 0) (Q : Y → Type 0) → ((x : X) (y : Y) → P x → R x y → Q y) → (xs : List X) (ys : List Y) → AllByRecursion P xs → AllZip R xs ys → AllByRecursion Q ys
+zip_right P R Q f [] [] p r = tt
+zip_right P R Q f [] (y ∷ ys) p r = absurd r
+zip_right P R Q f (x ∷ xs) [] p r = absurd r
+zip_right P R Q f (x ∷ xs) (y ∷ ys) p r = (f x y p.0 r.0, zip_right P R Q f xs ys p.1 r.1)

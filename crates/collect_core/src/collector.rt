@@ -5,13 +5,13 @@ ghost use Rattle.std.specs.Prelude.{◌≡◌, ◌^◌, ◌≤◌, ◌<◌, ◌+
 ghost use Rattle.tuple_core.specs.Values.{RowList};
 ghost use Rattle.collect_core.specs.Collecting.{work_left};
 ghost use Rattle.collect_core.specs.Giving.{FailsOpening, Gives, IsAt, IsIdleAt};
-ghost use Rattle.collect_core.specs.Members.{AreSound, HasAccepted, are_settled, end_of, fresh_group, fresh_members, is_named, is_settled, is_starved, member_now, starved_group};
+ghost use Rattle.collect_core.specs.Members.{AreSound, AreTold, AreWithin, HasAccepted, are_settled, end_of, fresh_group, fresh_members, is_named, is_settled, is_starved, member_now, starved_group};
 ghost use Rattle.collect_core.specs.Steps.{Falls, Gathers, Steps};
 
 use crate::member::{Member, MemberNow};
 use crate::reader::Collected;
 use crate::selection::Selection;
-use csv_wrap::Members;
+use csv_wrap::{MemberEnd, Members};
 use med_base::{GroupName, MemberName, Source};
 use std::alloc::{AllocError, Global};
 use std::marker::Model;
@@ -174,17 +174,35 @@ impl<S: Source> AtomCollector<S> {
         Some(member.group())
     }
 
+    /// What holds of each collector, for callers' proofs. It does nothing.
+    pub fn stands(&self)
+        ensures sound { AreSound S.Source self.now.columns self.now.members }
+        ensures told { (accepted : List RowList) → HasAccepted S.Source self.now.members accepted → AreTold S.Source self.now.columns self.now.members accepted }
+        ensures within { (accepted : List RowList) → HasAccepted S.Source self.now.members accepted → AreWithin self.now.columns accepted }
+        ensures width { length self.now.columns ≡ length self.now.select.terms }
+    {
+        let _members = &self.members;
+    }
+
     /// The ends of the members, if the run ends now, by group and mirror. Where memory runs out they are gone.
     pub fn into_ends(self, alloc: Global) -> Result<Members<S>, AllocError>
         ensures ends { IfOk result (λ ends. ends ≡ map end_of self.members) }
         ensures sound { AreSound S.Source self.columns self.members }
     {
-        let mut ends = Members::new(alloc);
-        for member in self.members {
-            ends.push(member.into_end())?;
-        }
-        Ok(ends)
+        Ok(Members::from_vec(ends_of(alloc, self.members)?))
     }
+}
+
+fn ends_of<S: Source>(
+    alloc: Global,
+    members: Vec<Member<S>>,
+) -> Result<Vec<MemberEnd<S>>, AllocError>
+    ensures { IfOk result (λ ends. ends.items ≡ map end_of members.items) }
+{
+    members
+        .into_iter()
+        .map(|member| member.into_end())
+        .collect(alloc)
 }
 
 // Lists the members of a group's mirrors behind the others.
