@@ -12,3 +12,6 @@ pub use laws::{collectors_are_leaves, collectors_step};
 pub use member::{Member, MemberNow};
 pub use reader::{Collected, Reader};
 pub use selection::Selection;
+
+#[cfg(test)]
+mod tests;
