@@ -5,3 +5,5 @@ pub mod Places
 pub mod Gathering
 pub mod Telling
 pub mod Leaves
+pub mod Plain
+pub mod Examples

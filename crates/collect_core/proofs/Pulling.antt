@@ -161,15 +161,19 @@ module _ {S M : Type 0} (source : Source S M) (old mid : Reader S) (row : RowVal
     few = takes.answers.0;
     waited = waits_more;
   }
+
   pub went_short : (select : Select) → Went source select old waiting_one collected.NoMemory
   went_short select = record {
     reader = waits_reader;
-    reads = (active, record {
-      nothing = record { accepted = λ rows h. (filled_on old.wrapper.ahead.columns mid.wrapper.ahead.columns rows takes.columns_is h.0, takes.given rows h); counted = takes.accepted_is };
-      state_is = takes.state_is;
-      fault_is = takes.fault_is;
-      waited_is = takes.waited_is;
-    });
+    reads = (
+      active,
+      record {
+        nothing = record { accepted = λ rows h. (filled_on old.wrapper.ahead.columns mid.wrapper.ahead.columns rows takes.columns_is h.0, takes.given rows h); counted = takes.accepted_is };
+        state_is = takes.state_is;
+        fault_is = takes.fault_is;
+        waited_is = takes.waited_is;
+      },
+    );
     columns = takes.columns_is;
     same = same_source source old.wrapper.source mid.wrapper.source takes.source_is;
     falls = tt;
@@ -202,15 +206,18 @@ module _ {S M : Type 0} (source : Source S M) (old mid : Reader S) (answer : Nex
       → Went source select old (failed_at why) collected.Moved
   went_fault select why reached sound = record {
     reader = reads_all source (failed_at why) is.rows takes.waits (filled_none is.rows is.given) (given_none is.rows is.given) all_counted takes.so_far takes.told sound few_none waited_none tt;
-    reads = inr (inl (why, record {
-      was = active;
-      nothing = record { accepted = λ rows h. reader_accepted source (failed_at why) rows takes.waits (filled_none rows h) (given_none rows h); counted = takes.accepted_is };
-      source_is = takes.source_is;
-      reached = reached;
-      state_is = refl;
-      fault_is = refl;
-      waited_is = takes.waited_is;
-    }));
+    reads = inr (inl (
+      why,
+      record {
+        was = active;
+        nothing = record { accepted = λ rows h. reader_accepted source (failed_at why) rows takes.waits (filled_none rows h) (given_none rows h); counted = takes.accepted_is };
+        source_is = takes.source_is;
+        reached = reached;
+        state_is = refl;
+        fault_is = refl;
+        waited_is = takes.waited_is;
+      },
+    ));
     columns = takes.columns_is;
     same = same_source source old.wrapper.source mid.wrapper.source takes.source_is;
     falls = subst (λ n. 0 < n) (sym (left_active source old active)) (omega arith);
@@ -221,12 +228,15 @@ module _ {S M : Type 0} (source : Source S M) (old mid : Reader S) (answer : Nex
   went_nowhere select = record {
     reader = reads_all source mid is.rows takes.waits (filled_none is.rows is.given) (given_none is.rows is.given) all_counted takes.so_far takes.told
         (sound_in source mid.wrapper mid.state mid.fault (takes.state_is ∙ active) (takes.fault_is ∙ no_fault source old is active) takes.so_far) few_none waited_none (subst HasBegun (sym (takes.state_is ∙ active)) tt);
-    reads = (active, record {
-      nothing = record { accepted = λ rows h. reader_accepted source mid rows takes.waits (filled_none rows h) (given_none rows h); counted = takes.accepted_is };
-      state_is = takes.state_is;
-      fault_is = takes.fault_is;
-      waited_is = takes.waited_is;
-    });
+    reads = (
+      active,
+      record {
+        nothing = record { accepted = λ rows h. reader_accepted source mid rows takes.waits (filled_none rows h) (given_none rows h); counted = takes.accepted_is };
+        state_is = takes.state_is;
+        fault_is = takes.fault_is;
+        waited_is = takes.waited_is;
+      },
+    );
     columns = takes.columns_is;
     same = same_source source old.wrapper.source mid.wrapper.source takes.source_is;
     falls = tt;
@@ -367,6 +377,7 @@ module _ {S M : Type 0} (source : Source S M) (select : Select) (old mid new : R
       was = active;
       nothing = accepts_none;
       before = mid.wrapper;
+      given = given_none source old mid next.Nothing refl is active takes;
       source_is = takes.source_is;
       kept_is = takes.kept_is;
       ended_is = takes.ended_is;
@@ -392,12 +403,15 @@ module _ {S M : Type 0} (source : Source S M) (select : Select) (old mid new : R
   reads_pulled pulled.NotYet by = inr (pulls pulled.NotYet by)
   reads_pulled pulled.Ended by = inr (inr (pulled.Ended, pulls pulled.Ended by, tt))
   reads_pulled (pulled.Failed why) by = inr (inr (pulled.Failed why, pulls (pulled.Failed why) by, tt))
-  reads_pulled pulled.NoMemory by = (active, record {
-    nothing = accepts_none pulled.NoMemory by;
-    state_is = by.state_is ∙ sym active;
-    fault_is = by.fault_is ∙ sym (no_fault source old is active);
-    waited_is = by.waited_is ∙ takes.waited_is;
-  })
+  reads_pulled pulled.NoMemory by = (
+    active,
+    record {
+      nothing = accepts_none pulled.NoMemory by;
+      state_is = by.state_is ∙ sym active;
+      fault_is = by.fault_is ∙ sym (no_fault source old is active);
+      waited_is = by.waited_is ∙ takes.waited_is;
+    },
+  )
 
   pub went_pull : (result : Collected) → PullsAs source mid new result → Went source select old new result
   went_pull result by =

@@ -11,7 +11,7 @@ use Rattle.med_prelude.specs.Counts.{greatest_count}
 use Rattle.tuple_core.specs.Values.{RowList, RowValues}
 use Rattle.csv_wrap.specs.Ahead.{HoldsNothing}
 use Rattle.csv_wrap.specs.Pulls.{AnswersOnePull, AsksSource, CountsWaits, LeavesSource, MovesBy}
-use Rattle.csv_wrap.specs.Wrapped.{IsPulled, SameSource, Wrapped, fault_of}
+use Rattle.csv_wrap.specs.Wrapped.{HasGiven, IsPulled, SameSource, Wrapped, fault_of}
 use Rattle.csv_wrap.specs.declared.wrapper.Pulled.{Pulled}
 use Rattle.csv_wrap.specs.declared.wrapper.Pulled.TheVariants as pulled
 use Rattle.collect_core.specs.Collecting.{Collecting}
@@ -108,8 +108,9 @@ waited_after pulled.NoMemory waited = waited
 pub record Pulls {S M : Type 0} (source : Source S M) (old new : Reader S) (answer : Pulled) : Type 0 where
   pub was : old.state ≡ state.Active
   pub nothing : AcceptsNothing source old new
-  -- the wrapper, once what it held was read
+  -- the wrapper, once what it held was read, of which there was no row
   pub before : Wrapped S
+  pub given : (rows : RowList) → ReaderAccepted source old rows → HasGiven source before rows
   pub source_is : before.source ≡ old.wrapper.source
   pub kept_is : before.kept ≡ old.wrapper.kept
   pub ended_is : before.ahead.framed.ended ≡ old.wrapper.ahead.framed.ended

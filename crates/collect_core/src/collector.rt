@@ -80,9 +80,7 @@ impl<S: Source> AtomCollector<S> {
     pub fn find(&self, name: MemberName) -> Option<usize>
         ensures { result ≡ position (is_named name) self.now.members }
     {
-        self.members
-            .iter()
-            .position(|member| member.is_named(name))
+        self.members.iter().position(|member| member.is_named(name))
     }
 
     /// How a member stands.

@@ -37,12 +37,15 @@ impl Selection {
     }
 
     /// The row's values of the atom's variables, if it matches and passes. Where memory runs out, the row is
-    /// handed back.
+    /// handed back. An atom that asks for a variable of its own in each column takes the row as it is.
     pub(crate) fn select(&self, alloc: Global, row: Row) -> Result<Option<Row>, Row>
         requires width { length row ≡ length self.now.terms }
         ensures selected { IfOk result (λ selected. selected ≡ selected_row self.now row) }
         ensures back { IfErr result (λ back. back ≡ row) }
     {
+        if row.values().len() == self.pattern.variables().as_slice().len() {
+            return Ok(self.passing(row));
+        }
         match self.pattern.match_row(alloc, &row) {
             Ok(Some(values)) => Ok(self.passing(values)),
             Ok(None) => Ok(None),

@@ -19,7 +19,12 @@ const ROUNDS: usize = 1_000;
 fn selection(alloc: Global) -> Result<Selection, Fail>
     ensures { IfOk result (λ s. length s.terms ≡ 4) }
 {
-    let terms = vec![in alloc; Term::Variable(0), Term::Variable(0), Term::Constant(Value::Int(3)), Term::Variable(1)]?;
+    let terms = vec![in alloc;
+        Term::Variable(0),
+        Term::Variable(0),
+        Term::Constant(Value::Int(3)),
+        Term::Variable(1),
+    ]?;
     let less = Comparison {
         left: Term::Variable(0),
         op: Op::Lt,
@@ -39,7 +44,12 @@ fn column(alloc: Global, name: &str) -> Result<Column, Fail> {
 fn columns(alloc: Global) -> Result<Columns, Fail>
     ensures { IfOk result (λ columns. length columns ≡ 4) }
 {
-    let columns = vec![in alloc; column(alloc, "a")?, column(alloc, "b")?, column(alloc, "c")?, column(alloc, "d")?]?;
+    let columns = vec![in alloc;
+        column(alloc, "a")?,
+        column(alloc, "b")?,
+        column(alloc, "c")?,
+        column(alloc, "d")?,
+    ]?;
     Ok(Columns::from_vec(columns))
 }
 
@@ -151,7 +161,10 @@ fn selects_rows_of_two_groups_as_their_bytes_come(rt: HostRuntime) -> Result<(),
     let first = b"a,b,c,d\n1,1,3,5\n1,2,3,5\n2,2,4,5\n7,7,3,5\n6,6,3,9";
     let second = b"a,b,c,d\n4,4,3,9\n";
     for size in [1, 2, 5, 7, 100] {
-        let sites = vec![in alloc; site(alloc, "first", first, slow(alloc, size)?)?, site(alloc, "second", second, slow(alloc, size)?)?]?;
+        let sites = vec![in alloc;
+            site(alloc, "first", first, slow(alloc, size)?)?,
+            site(alloc, "second", second, slow(alloc, size)?)?,
+        ]?;
         let mut opener = MemOpener::new(alloc, sites, Vec::new(alloc));
         let mut collector = collector(alloc)?;
         open(alloc, &mut collector, &mut opener, 0)?;
@@ -201,12 +214,24 @@ fn members_end_with_their_causes(rt: HostRuntime) -> Result<(), Fail> {
     let alloc = rt.alloc();
     let good = b"a,b,c,d\n1,1,3,5\n2,2,3,5\n";
     let failed = |fault, accepted| (Some((MemberState::Failed, Some(fault), accepted)), true);
-    assert_eq!(rt; ends(alloc, good, Turn::NotYet, true)?, failed(MemberFault::Opening, 0));
-    assert_eq!(rt; ends(alloc, good, Turn::Failed, false)?, failed(MemberFault::Read, 1));
+    assert_eq!(rt;
+        ends(alloc, good, Turn::NotYet, true)?,
+        failed(MemberFault::Opening, 0)
+    );
+    assert_eq!(rt;
+        ends(alloc, good, Turn::Failed, false)?,
+        failed(MemberFault::Read, 1)
+    );
     let header = b"a,b,c\n1,1,3\n";
-    assert_eq!(rt; ends(alloc, header, Turn::NotYet, false)?, failed(MemberFault::Header { found: 3 }, 0));
+    assert_eq!(rt;
+        ends(alloc, header, Turn::NotYet, false)?,
+        failed(MemberFault::Header { found: 3 }, 0)
+    );
     let field = b"a,b,c,d\n1,1,3,5\n2,2,3,x\n4,4,3,9\n";
-    assert_eq!(rt; ends(alloc, field, Turn::NotYet, false)?, failed(MemberFault::BadField { k: 2, column: 3 }, 1));
+    assert_eq!(rt;
+        ends(alloc, field, Turn::NotYet, false)?,
+        failed(MemberFault::BadField { k: 2, column: 3 }, 1)
+    );
     let ended = (Some((MemberState::Ended, None, 2)), false);
     assert_eq!(rt; ends(alloc, good, Turn::NotYet, false)?, ended);
     Ok(())

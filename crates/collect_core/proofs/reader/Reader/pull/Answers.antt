@@ -14,8 +14,9 @@ returns-in-Moved g c =
     let new : Reader g.row.S.Denot = record old { wrapper = c.pull_rows.new.self } in
     let active : in'.state ≡ state.Active = ap (λ (r : Reader g.row.S.Denot). r.state) c.self.view_is ∙ c.requires.active in
     let unfaulted : in'.fault ≡ None = ap (λ (r : Reader g.row.S.Denot). r.fault) c.self.view_is ∙ c.requires.fault in
-    let none : in'.waiting ≡ None = ap (λ (r : Reader g.row.S.Denot). r.waiting) c.self.view_is ∙ c.requires.waits in
-    (pulled.Moved,
-    subst (λ r. PulledBy g.S.Source r new pulled.Moved) c.self.view_is
-    (pulled_from g.S.Source old new pulled.Moved none refl active unfaulted refl e.source e.columns e.gave e.answer e.one_pull e.no_pull e.waits e.moved e.given e.accepted e.last e.sound),
-    refl)
+    let none : in'.waiting ≡ None = ap (λ (r : Reader g.row.S.Denot). r.waiting) c.self.view_is ∙ c.requires.waits in (
+      pulled.Moved,
+      subst (λ r. PulledBy g.S.Source r new pulled.Moved) c.self.view_is
+          (pulled_from g.S.Source old new pulled.Moved none refl active unfaulted refl e.source e.columns e.gave e.answer e.one_pull e.no_pull e.waits e.moved e.given e.accepted e.last e.sound),
+      refl,
+    )
