@@ -23,7 +23,7 @@ select = record {
   comparisons = record { left = Variable 0; op = Lt; right = Variable 1 } ∷ [];
 }
 
-selects : selected_row select (row 1 1 3 5) ≡ Some (pair 1 5)
+pub selects : selected_row select (row 1 1 3 5) ≡ Some (pair 1 5)
 selects = refl
 
 -- x has two values, the constant isn't there, the comparison doesn't hold
@@ -37,5 +37,5 @@ fails : selected_row select (row 7 7 3 5) ≡ None
 fails = refl
 
 -- of two members
-gives : given_rows select ((row 1 1 3 5 ∷ row 1 2 3 5 ∷ []) ∷ (row 7 7 3 5 ∷ row 4 4 3 9 ∷ []) ∷ []) ≡ pair 1 5 ∷ pair 4 9 ∷ []
+pub gives : given_rows select ((row 1 1 3 5 ∷ row 1 2 3 5 ∷ []) ∷ (row 7 7 3 5 ∷ row 4 4 3 9 ∷ []) ∷ []) ≡ pair 1 5 ∷ pair 4 9 ∷ []
 gives = refl

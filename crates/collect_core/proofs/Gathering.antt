@@ -1,25 +1,23 @@
 -- The members of a collector: their soundness, and what one step adds.
-use Rattle.std.proofs.Common.{◌≡◌, ℕ, ◌+◌, ◌<◌, ◌≤◌, ◌⊎◌, inl, inr, Bool, true, false, List, [], ◌∷◌, ◌++◌, length, set, drop, replicate, flat_map, Option, Some, None, IfSome, refl, sym, ap, subst, ◌∙◌, arith, append-nil}
-use Rattle.std.specs.List.{AllByRecursion, AllZip, cons_option, filter_map, slice_get, slice_index_or}
+use Rattle.std.proofs.Common.{◌≡◌, ℕ, ◌+◌, ◌<◌, ◌≤◌, inl, inr, Bool, true, false, List, [], ◌∷◌, ◌++◌, length, set, drop, replicate, Option, Some, None, IfSome, refl, sym, ap, subst, ◌∙◌, arith, append-nil}
+use Rattle.std.specs.List.{AllByRecursion, cons_option, slice_get, slice_index_or}
 use Rattle.std.specs.Option.{MatchOption}
-use Rattle.std.specs.Prelude.{option_map}
 use Rattle.std.proofs.lemmas.List.{drop_all}
 use Rattle.answer_theory.specs.Bags.{SameBag, weight_of}
-use Rattle.answer_theory.proofs.Bags.{bag_append, bag_from_same, bag_refl, bag_trans}
 use Rattle.answer_theory.proofs.Lists.{each_append, each_then}
 use Rattle.med_base.specs.declared.member.MemberState.TheVariants as state
 use Rattle.med_base.specs.declared.names.MemberName.{MemberName}
 use Rattle.med_base.specs.declared.outside.source.Source.{Ghosts as Source}
 use Rattle.tuple_core.specs.declared.columns.Column.{Column}
-use Rattle.tuple_core.specs.Values.{RowList, RowValues}
-use Rattle.csv_wrap.specs.Sound.{IsSoundMember, IsSoundState, IsSoundWith}
+use Rattle.tuple_core.specs.Values.{RowList}
+use Rattle.csv_wrap.specs.Sound.{IsSoundMember, IsSoundState}
 use Rattle.csv_wrap.specs.Wrapped.{SameSource}
-use Rattle.collect_core.specs.Collecting.{Collecting, IsCollector, work_left}
+use Rattle.collect_core.specs.Collecting.{Collecting, IsCollector}
 use Rattle.collect_core.specs.Giving.{FailsOpening, Gives, GivesMember, IsAt, IsIdleAt}
 use Rattle.collect_core.specs.Members.{AreSound, HasAccepted, IsMember, Member, MemberAccepted, end_of, fresh_group, fresh_members, member_left, member_now, member_now_with}
-use Rattle.collect_core.specs.Reading.{HasBegun, IsReader, Reader, ReaderAccepted, reader_left}
+use Rattle.collect_core.specs.Reading.{HasBegun, IsReader, Reader, ReaderAccepted}
 use Rattle.collect_core.specs.Selecting.{Select, selected_row, selected_rows}
-use Rattle.collect_core.specs.Steps.{CollectorStep, Falls, Gathers, GrewTo, ReadsOn, Steps, StepsMember, gave, given_rows, with_rows}
+use Rattle.collect_core.specs.Steps.{Falls, Gathers, GrewTo, ReadsOn, Steps, StepsMember, gave, given_rows, with_rows}
 use Rattle.collect_core.specs.declared.reader.Collected.{Collected}
 use Rattle.collect_core.specs.declared.reader.Collected.TheVariants as collected
 use Rattle.collect_core.proofs.Places.{all_at, all_set, bag_set, filter_map_append, some_holds, some_inside, stands_at, weight_set, zip_at, zip_self_set, zip_set, zip_set_left, zip_there}

@@ -3,7 +3,6 @@ use Rattle.std.proofs.Common.{◌≡◌, ℕ, Bool, true, false, cond, List, [],
 use Rattle.std.proofs.lemmas.List.Elements.{All-from_recursion}
 use Rattle.std.specs.List.{AllByRecursion, AllZip, cons_option, filter_map}
 use Rattle.std.specs.Prelude.{option_and_then}
-use Rattle.answer_theory.specs.Bags.{SameBag}
 use Rattle.answer_theory.specs.Bindings.{Binding}
 use Rattle.answer_theory.specs.Rows.{over}
 use Rattle.answer_theory.specs.Solutions.{chosen_rows, only}

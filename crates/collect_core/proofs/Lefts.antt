@@ -1,5 +1,5 @@
 -- How much is left to do: it falls with each step that moves.
-use Rattle.std.proofs.Common.{◌≡◌, ℕ, ◌+◌, ◌-◌, ◌<◌, ◌≤◌, ◌⊎◌, inl, inr, Bool, true, false, List, [], ◌∷◌, length, refl, sym, ap, subst, ◌∙◌, arith}
+use Rattle.std.proofs.Common.{◌≡◌, ℕ, ◌+◌, ◌-◌, ◌<◌, ◌≤◌, ◌⊎◌, inl, inr, Bool, true, false, List, [], ◌∷◌, length, refl, ap, ◌∙◌, arith}
 use Rattle.med_base.specs.declared.member.MemberState.{MemberState}
 use Rattle.med_base.specs.declared.member.MemberState.TheVariants as state
 use Rattle.med_base.specs.declared.outside.source.Source.{Ghosts as Source}

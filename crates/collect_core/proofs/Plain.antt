@@ -1,5 +1,5 @@
 -- An atom of distinct variables alone selects rows as they are.
-use Rattle.std.proofs.Common.{◌≡◌, ℕ, suc, ◌+◌, ◌≤◌, ◌==◌, Bool, true, false, not, cond, ◌&&◌, List, [], ◌∷◌, length, filter, Some, None, refl, sym, ap, subst, ◌∙◌, arith}
+use Rattle.std.proofs.Common.{◌≡◌, ℕ, suc, ◌≤◌, ◌==◌, Bool, true, false, not, cond, ◌&&◌, List, [], ◌∷◌, length, filter, Some, None, refl, sym, ap, subst, ◌∙◌, arith}
 use Rattle.answer_theory.specs.Bindings.{Binding, consistent, first_entries}
 use Rattle.answer_theory.specs.Rows.{AreDistinct, first_occurrences, over, values}
 use Rattle.answer_theory.proofs.Bindings.{consistent_first_entries}

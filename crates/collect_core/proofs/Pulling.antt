@@ -1,6 +1,5 @@
 -- The steps of a reader.
-use Rattle.std.proofs.Common.{◌≡◌, ◌≢◌, ℕ, ◌+◌, ◌-◌, ◌<◌, ◌≤◌, ◌⊎◌, inl, inr, Bool, true, false, List, [], ◌∷◌, ◌++◌, length, Option, Some, None, IfSome, refl, sym, ap, subst, ◌∙◌, arith, append-nil}
-use Rattle.std.specs.Prelude.{option_to_list}
+use Rattle.std.proofs.Common.{◌≡◌, ℕ, ◌+◌, ◌<◌, ◌≤◌, ◌⊎◌, inl, inr, true, false, List, [], ◌∷◌, ◌++◌, length, Option, Some, None, IfSome, refl, sym, ap, subst, ◌∙◌, arith, append-nil}
 use Rattle.answer_theory.proofs.Lists.{each_append}
 use Rattle.med_base.specs.declared.member.MemberFault.{MemberFault}
 use Rattle.med_base.specs.declared.member.MemberState.{MemberState}
@@ -8,7 +7,7 @@ use Rattle.med_base.specs.declared.member.MemberState.TheVariants as state
 use Rattle.med_base.specs.declared.outside.source.Source.{Ghosts as Source}
 use Rattle.tuple_core.specs.declared.columns.Column.{Column}
 use Rattle.tuple_core.specs.Values.{RowList, RowValues}
-use Rattle.csv_wrap.specs.Ahead.{FillColumns, HoldsNothing}
+use Rattle.csv_wrap.specs.Ahead.{FillColumns}
 use Rattle.csv_wrap.specs.Pulls.{AnswersOnePull, AsksSource, CountsWaits, LeavesSource, MovesBy}
 use Rattle.csv_wrap.specs.Sound.{IsSoundSoFar, IsSoundState}
 use Rattle.csv_wrap.specs.Wrapped.{AcceptedAs, HasGiven, IsLast, IsPulled, SameSource, SoundAs, Wrapped, fault_of, row_of}
@@ -19,7 +18,7 @@ use Rattle.csv_wrap.specs.declared.wrapper.Pulled.{Pulled}
 use Rattle.csv_wrap.specs.declared.wrapper.Pulled.TheVariants as pulled
 use Rattle.collect_core.specs.Reading.{HasBegun, IsReader, Reader, ReaderAccepted, end_to_come, most_rows, reader_left, some_kept}
 use Rattle.collect_core.specs.Selecting.{Select, selected_row}
-use Rattle.collect_core.specs.Steps.{Accepts, AcceptsNothing, Falls, HasMoved, Pulls, Reaches, ReadsOn, StandsStill, fault_after, state_after, waited_after}
+use Rattle.collect_core.specs.Steps.{Accepts, AcceptsNothing, Falls, Pulls, ReadsOn, fault_after, state_after, waited_after}
 use Rattle.collect_core.specs.Turning.{PulledBy, PullsAs, TakesNext, collected_by}
 use Rattle.collect_core.specs.declared.reader.Collected.{Collected}
 use Rattle.collect_core.specs.declared.reader.Collected.TheVariants as collected

@@ -1,18 +1,17 @@
 -- Readers: how they begin, and how they take the next row that is held.
-use Rattle.std.proofs.Common.{◌≡◌, ◌≢◌, ℕ, ◌+◌, ◌≤◌, List, [], ◌∷◌, ◌++◌, length, take, Option, Some, None, IfSome, refl, sym, ap, subst, ◌∙◌, arith, append-nil}
+use Rattle.std.proofs.Common.{◌≡◌, ℕ, ◌+◌, ◌≤◌, List, [], ◌∷◌, ◌++◌, length, take, Option, Some, None, IfSome, refl, sym, ap, subst, ◌∙◌, arith, append-nil}
 use Rattle.std.specs.Prelude.{option_map, option_to_list}
 use Rattle.med_base.specs.declared.member.MemberFault.{MemberFault}
-use Rattle.med_base.specs.declared.member.MemberState.{MemberState}
 use Rattle.med_base.specs.declared.member.MemberState.TheVariants as state
 use Rattle.med_base.specs.declared.outside.source.Source.{Ghosts as Source}
 use Rattle.tuple_core.specs.declared.columns.Column.{Column}
 use Rattle.tuple_core.specs.Values.{RowList, RowValues}
-use Rattle.csv_wrap.specs.Ahead.{FillColumns, HoldsNothing}
+use Rattle.csv_wrap.specs.Ahead.{FillColumns}
 use Rattle.csv_wrap.specs.Sound.{IsSoundSoFar, IsSoundState, taken_rows}
-use Rattle.csv_wrap.specs.Wrapped.{AcceptedAs, FillsColumns, HasGiven, IsNext, SoundAs, Wrapped, fault_of, row_of}
+use Rattle.csv_wrap.specs.Wrapped.{AcceptedAs, FillsColumns, HasGiven, IsNext, SoundAs, Wrapped, row_of}
 use Rattle.csv_wrap.specs.declared.wrapper.NextRow.{NextRow}
 use Rattle.csv_wrap.specs.declared.wrapper.NextRow.TheVariants as next
-use Rattle.collect_core.specs.Reading.{HasBegun, IsReader, IsSoundReader, Reader, ReaderAccepted, most_rows}
+use Rattle.collect_core.specs.Reading.{HasBegun, IsReader, Reader, ReaderAccepted, most_rows}
 use Rattle.collect_core.specs.Turning.{IsFresh, TakesAs, TakesNext}
 
 -- ---- states

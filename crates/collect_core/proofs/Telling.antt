@@ -1,5 +1,5 @@
 -- What was accepted is what the sources tell.
-use Rattle.std.proofs.Common.{◌≡◌, ℕ, ◌+◌, ◌≤◌, Bool, List, [], ◌∷◌, ◌++◌, length, take, Option, Some, None, IfSome, refl, sym, ap, subst, ◌∙◌, arith, length-append}
+use Rattle.std.proofs.Common.{◌≡◌, ℕ, ◌+◌, ◌≤◌, Bool, List, ◌++◌, length, take, Option, Some, None, IfSome, sym, ap, subst, ◌∙◌, arith, length-append}
 use Rattle.std.proofs.Math.Seq.{take-append_seam}
 use Rattle.std.proofs.lemmas.List.{take-take}
 use Rattle.std.specs.List.{AllByRecursion}
@@ -11,7 +11,7 @@ use Rattle.tuple_core.specs.Values.{RowList}
 use Rattle.csv_wrap.specs.Ahead.{FillColumns}
 use Rattle.csv_wrap.specs.Sound.{taken_rows}
 use Rattle.collect_core.specs.Members.{AreTold, AreWithin, HasAccepted, IsMember, IsTold, Member, MemberAccepted}
-use Rattle.collect_core.specs.Reading.{IsReader, Reader, ReaderAccepted, most_rows}
+use Rattle.collect_core.specs.Reading.{Reader, most_rows}
 use Rattle.collect_core.proofs.Places.{zip_from, zip_right}
 
 -- the first rows, without those behind them

@@ -1,5 +1,5 @@
 -- How far the reading of a source has come.
-use Rattle.std.specs.Prelude.{◌≡◌, ◌≢◌, ⊤, ℕ, ◌+◌, ◌-◌, ◌≤◌, ◌^◌, Bool, true, false, List, [], ◌∷◌, ◌++◌, length, Option, Some, None, IfSome, option_to_list}
+use Rattle.std.specs.Prelude.{◌≡◌, ◌≢◌, ⊤, ℕ, ◌+◌, ◌-◌, ◌≤◌, ◌^◌, Bool, true, false, [], ◌∷◌, ◌++◌, length, Option, None, IfSome, option_to_list}
 use Rattle.med_base.specs.declared.member.MemberFault.{MemberFault}
 use Rattle.med_base.specs.declared.member.MemberState.{MemberState}
 use Rattle.med_base.specs.declared.member.MemberState.TheVariants as state

@@ -237,10 +237,14 @@ fn members_end_with_their_causes(rt: HostRuntime) -> Result<(), Fail> {
     Ok(())
 }
 
+// A value that may be handed to another thread.
+fn sends<T: Send>(_value: &T) {}
+
 #[test]
 fn finds_members_by_their_names(rt: HostRuntime) -> Result<(), Fail> {
     let alloc = rt.alloc();
     let collector = collector(alloc)?;
+    sends(&collector);
     for (group, mirror, wanted) in [(1, 1, Some(0)), (2, 1, Some(1)), (2, 2, None), (3, 1, None)] {
         let name = MemberName {
             atom: 1,

@@ -1,4 +1,4 @@
-use Rattle.std.proofs.Common.{◌≡◌, List, set, sym, ap, subst, ◌∙◌}
+use Rattle.std.proofs.Common.{◌≡◌, set, sym, ap, subst, ◌∙◌}
 use Rattle.std.proofs.lemmas.Result.{err_from_is_err_and}
 use Rattle.med_base.specs.declared.member.MemberState.TheVariants as state
 use Rattle.collect_core.specs.Collecting.{Collecting}

@@ -1,5 +1,5 @@
-use Rattle.std.proofs.Common.{sym, subst}
-use Rattle.collect_core.specs.Collecting.{Collecting, IsCollector}
+use Rattle.std.proofs.Common.{subst}
+use Rattle.collect_core.specs.Collecting.{IsCollector}
 use Rattle.collect_core.proofs.Gathering.{members_sound}
 use Rattle.collect_core.proofs.Telling.{are_told, are_within}
 use Rattle.collect_core.proofs.collector.AtomCollector.stands.Goals as goal

@@ -1,7 +1,7 @@
-use Rattle.std.proofs.Common.{◌≡◌, ◌<◌, length, set, sym, subst}
+use Rattle.std.proofs.Common.{◌<◌, length, set, sym, subst}
 use Rattle.answer_theory.specs.Bags.{weight_of}
 use Rattle.collect_core.specs.Collecting.{Collecting, work_left}
-use Rattle.collect_core.specs.Members.{Member, member_left}
+use Rattle.collect_core.specs.Members.{member_left}
 use Rattle.collect_core.specs.Steps.{Falls, Steps}
 use Rattle.collect_core.proofs.Gathering.{changed_sound, gathers, stepped, work_falls}
 use Rattle.collect_core.proofs.Places.{stands_at}

@@ -1,4 +1,4 @@
-use Rattle.std.proofs.Common.{◌≡◌, Some, None, refl, sym, ap, subst, ◌∙◌}
+use Rattle.std.proofs.Common.{◌≡◌, None, refl, ap, subst, ◌∙◌}
 use Rattle.med_base.specs.declared.member.MemberState.TheVariants as state
 use Rattle.csv_wrap.specs.declared.wrapper.Pulled.TheVariants as pulled
 use Rattle.collect_core.specs.Reading.{Reader}

@@ -4,7 +4,7 @@ use Rattle.csv_wrap.specs.declared.wrapper.NextRow.TheVariants as next
 use Rattle.collect_core.specs.Reading.{Reader}
 use Rattle.collect_core.specs.Selecting.{selected_row}
 use Rattle.collect_core.specs.Turning.{TakesNext}
-use Rattle.collect_core.proofs.Pulling.{went_fault, went_nowhere, went_pull, went_row, went_short, went_unselected}
+use Rattle.collect_core.proofs.Pulling.{went_pull, went_row, went_unselected}
 use Rattle.collect_core.proofs.reader.Reader.step.Goals as goal
 
 pub returns-in-Ok-Some : goal.returns-in-Ok-Some
