@@ -5,3 +5,4 @@ pub mod Arriving
 pub mod Keeping
 pub mod Turning
 pub mod Finishing
+pub mod Joined

@@ -1,6 +1,8 @@
 -- What a join knows when the next match is asked for.
 use Rattle.std.proofs.Common.{◌≡◌, ◌<◌, ◌+◌, ℕ, Bool, List, [], length, get_or, Option, Some, None, option_map, refl, sym, ap, subst, ◌∙◌, arith}
 use Rattle.std.proofs.lemmas.List.{get_or_default, get_or_push, length_push}
+use Rattle.answer_theory.specs.Rows.{glued_variables}
+use Rattle.answer_theory.proofs.Rows.{glued_length}
 use Rattle.med_prelude.specs.Texts.{Bytes}
 use Rattle.tuple_core.specs.Hashing.{bucket_of}
 use Rattle.tuple_core.specs.Values.{RowValues}
@@ -72,6 +74,15 @@ module _ (shape : Shape) (sides : TwoSides) (next : ℕ) (key : Bytes) (p : Prob
       let there : length probing.others < length (rows_in (buckets_on p.side sides) p.bucket) = omega (arith, ap length probing.own, length_push probing.others (own_of key p)) in
       let own_held = mine.each p.bucket face.inside (length probing.others) no_row there in
       subst (λ (x : Held). length x.row ≡ length (vars_of p.side shape)) (ap (λ rows. get_or rows (length probing.others) no_row) probing.own ∙ get_or_push probing.others (own_of key p) no_row (length probing.others) refl) own_held.wide
+
+  pub gives_wide : (at : ℕ) (row : RowValues) → Some at ≡ found_in sides key p → row ≡ glued_on p.side shape p.row (get_or (facing_rows sides p) at no_row).row
+      → length row ≡ length (glued_variables shape.left shape.right)
+  gives_wide at row e glue = ap length glue ∙ turned p.side own_wide (partner_wide at e)
+    where
+      turned : (sd : Side) → length p.row ≡ length (vars_of sd shape) → length (get_or (facing_rows sides p) at no_row).row ≡ length (vars_of (opposite sd) shape)
+          → length (glued_on sd shape p.row (get_or (facing_rows sides p) at no_row).row) ≡ length (glued_variables shape.left shape.right)
+      turned side.Left own other = glued_length shape.left shape.right p.row (get_or (facing_rows sides p) at no_row).row own other
+      turned side.Right own other = glued_length shape.left shape.right (get_or (facing_rows sides p) at no_row).row p.row other own
 
   same_partner : (at : ℕ) → Some at ≡ found_in sides key p → get_or (facing_rows sides p) at (get_or (facing_rows sides p) at no_row) ≡ get_or (facing_rows sides p) at no_row
   same_partner at e = get_or_default (facing_rows sides p) at (get_or (facing_rows sides p) at no_row) no_row (found_inside at e)

@@ -1,8 +1,9 @@
 -- What a join is, as contracts see it: plain data, which knows nothing of memory and pages.
-use Rattle.std.specs.Prelude.{ℕ, suc, ◌+◌, ◌-◌, Bool, true, false, List, [], ◌∷◌, ◌++◌, length, map, set, flat_map, replicate, slice_index_or, cond, Option, Some, None, is_none}
+use Rattle.std.specs.Prelude.{◌≡◌, ℕ, suc, ◌+◌, ◌-◌, Bool, true, false, List, [], ◌∷◌, ◌++◌, length, map, set, flat_map, replicate, slice_index_or, cond, Option, Some, None, is_none}
+use Rattle.std.specs.List.{AllByRecursion}
 use Rattle.tuple_core.specs.Encoding.{row_encoding}
 use Rattle.tuple_core.specs.Hashing.{bucket_of}
-use Rattle.tuple_core.specs.Values.{RowList, RowValues}
+use Rattle.tuple_core.specs.Values.{FitsRow, RowList, RowValues}
 use Rattle.row_match.specs.Shapes.{Shape, key_row}
 use Rattle.row_match.specs.declared.shape.Side.{Side}
 use Rattle.row_match.specs.declared.shape.Side.TheVariants as side
@@ -82,6 +83,14 @@ rows_of piles = flat_map (λ p. p.rows) piles
 -- what came on a side
 abbrev pub stored_rows : Side → Joining → RowList
 stored_rows side s = map (λ h. h.row) (rows_of (piles_of side s))
+
+-- a value for each of the variables, within the limits of rows
+pub record IsRowOver (vs : List ℕ) (row : RowValues) : Type 0 where
+  pub wide : length row ≡ length vs
+  pub fits : FitsRow row
+
+abbrev pub AreRowsOver : List ℕ → RowList → Type 0
+AreRowsOver vs rows = AllByRecursion (IsRowOver vs) rows
 
 -- the row with its key and its number, if it comes next
 abbrev pub held_next : Side → Joining → RowValues → Held

@@ -1,14 +1,17 @@
 //! The join, and its calls.
 
 ghost use Rattle.std.specs.Prelude.{◌≡◌, ◌<◌, ◌≤◌, ◌+◌, ◌&&◌, [], length, option_map, slice_index_or, replicate, false, true, None, IfOk};
-ghost use Rattle.std.specs.List.{sum};
+ghost use Rattle.std.specs.List.{AllByRecursion, sum};
 ghost use Rattle.answer_theory.specs.Bags.{SameBag};
+ghost use Rattle.answer_theory.specs.Rows.{AreDistinct, glued_variables};
 ghost use Rattle.bucket_store.specs.Held.{greatest_total, no_row, rows_in};
+ghost use Rattle.row_match.specs.Patterns.{most_variables};
 ghost use Rattle.row_match.specs.Shapes.{vars_of};
+ghost use Rattle.row_match.specs.declared.shape.Side.{Side as ASide};
 ghost use Rattle.row_match.specs.declared.shape.Side.TheVariants as which;
 ghost use Rattle.join_core.specs.Given.{given_rows, joined_rows, pairs_given, pairs_owed};
 ghost use Rattle.join_core.specs.Sides.{at_place, glued_on, opposite};
-ghost use Rattle.join_core.specs.State.{ended, fresh_join, has_ended, pile_weights, piles_of, stored_rows};
+ghost use Rattle.join_core.specs.State.{AreRowsOver, ended, fresh_join, has_ended, pile_weights, piles_of, stored_rows};
 ghost use Rattle.join_core.specs.Steps.{Arrives, GivesNext, JoinStep, came_in, gave_out, is_finished, on_side};
 
 use crate::probe::Probe;
@@ -115,6 +118,7 @@ impl Join {
     pub fn next_out(&mut self, alloc: Global) -> OutStep
         ensures gives { GivesNext self.old self.new result }
         ensures step { JoinStep self.old self.new [] [] (gave_out result) }
+        ensures wide { AllByRecursion (λ row. length row ≡ length (glued_variables self.old.shape.left self.old.shape.right)) (gave_out result) }
     {
         let Some(probe) = &self.probe else {
             return OutStep::Nothing;
@@ -150,6 +154,15 @@ impl Join {
         ensures all { result ≡ true → SameBag (given_rows self.now) (joined_rows self.now.shape (stored_rows which.Left self.now) (stored_rows which.Right self.now)) }
     {
         are_all(self.left_ended, self.right_ended, self.probe.is_none())
+    }
+
+    /// What holds of each join, for callers' proofs. It does nothing.
+    pub fn stands(&self)
+        ensures rows { (side : ASide) → AreRowsOver (vars_of side self.now.shape) (stored_rows side self.now) }
+        ensures left { AreDistinct self.now.shape.left }
+        ensures short { length (glued_variables self.now.shape.left self.now.shape.right) ≤ most_variables }
+    {
+        let _variables = self.shape.variables().as_slice();
     }
 
     /// How heavy the rows of each bucket of a side are that are in memory.

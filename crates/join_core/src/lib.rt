@@ -10,7 +10,8 @@
 //!
 //! Contracts see the state as plain data (`specs/State.antt`). Which pairs were given and which are owed are tests on two
 //! rows (`specs/Given.antt`); what a call does to them is a step (`specs/Steps.antt`), and [`joins_step`] has the laws of
-//! steps. A state already says from when on a bucket's rows are not in memory, and how far a clean-up of those has come:
+//! steps. [`joins_are_joined`] says that what a join gives are the joined rows of the theory of answers, and
+//! [`Join::stands`] what holds of each join. A state already says from when on a bucket's rows are not in memory, and how far a clean-up of those has come:
 //! as long as no bucket is closed, every two rows of a key met in memory.
 #![tactic(auto)]
 
@@ -22,4 +23,4 @@ mod sides;
 mod tests;
 
 pub use join::{Arrive, Join, OutStep};
-pub use laws::joins_step;
+pub use laws::{joins_are_joined, joins_step};

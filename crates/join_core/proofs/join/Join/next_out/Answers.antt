@@ -1,11 +1,12 @@
 use Rattle.std.proofs.Common.{◌≡◌, ◌<◌, ◌+◌, [], Some, None, length, get_or, refl, sym, ap, subst, ◌∙◌}
 use Rattle.bucket_store.specs.Held.{no_row, rows_in}
+use Rattle.answer_theory.specs.Rows.{glued_variables}
 use Rattle.row_match.specs.Shapes.{vars_of}
 use Rattle.join_core.specs.Kept.{IsJoin, facing_rows}
 use Rattle.join_core.specs.Sides.{buckets_on, glued_on, joining_of, opposite}
 use Rattle.join_core.specs.Steps.{GivesMatch, GivesNothing, JoinStep}
 use Rattle.join_core.proofs.Stepping.{gives_step, nothing_idle}
-use Rattle.join_core.proofs.Turning.{found_by, found_in, found_inside, gives_nothing, gives_row, keeps_row, moves, own_wide, partner_wide}
+use Rattle.join_core.proofs.Turning.{found_by, found_in, found_inside, gives_nothing, gives_row, gives_wide, keeps_row, moves, own_wide, partner_wide}
 use Rattle.join_core.proofs.join.Join.next_out.Goals as goal
 
 pub returns-in_default-clause-gives : goal.returns-in_default-clause-gives
@@ -89,3 +90,12 @@ returns-clause-step c = gives_step c.args.self.now (joining_of c.self.inside.sha
     (ap (joining_of c.self.inside.shape c.self.inside.sides c.self.inside.left_ended c.self.inside.right_ended c.self.inside.next) (sym c.in-Some.is) ∙ c.self.view_is)
     (gives_row c.self.inside.shape c.self.inside.sides c.self.inside.next c.self.inside.key c.in-Some.probe joined c.self.inside.left_ended c.self.inside.right_ended c.moved_on.result c.in-Some-probe.place c.in-Ok.glued found moved
     (c.in-Ok.ensures ∙ ap (λ f. glued_on c.in-Some.probe.side c.self.inside.shape c.in-Some.probe.row (get_or (rows_in f c.in-Some.probe.bucket) c.in-Some-probe.place no_row).row) facing)))
+
+pub returns-clause-wide : goal.returns-clause-wide
+returns-clause-wide c =
+    let joined = subst (IsJoin c.self.inside.shape c.self.inside.sides c.self.inside.next c.self.inside.key) c.in-Some.is c.self.invariant in
+    let found : Some c.in-Some-probe.place ≡ found_in c.self.inside.sides c.self.inside.key c.in-Some.probe = sym c.in-Some-probe.is ∙ found_by c.self.inside.sides c.self.inside.key c.in-Some.probe c.on-facing.result.now c.as_slice.result.now c.opposite.result c.probe.result c.probe.ensures.next c.as_slice.ensures c.on-facing.ensures c.opposite.ensures in
+    let facing = c.on-facing.ensures ∙ ap (λ o. buckets_on o c.self.inside.sides) c.opposite.ensures in
+    let wide : length c.in-Ok.glued ≡ length (glued_variables c.self.inside.shape.left c.self.inside.shape.right) = gives_wide c.self.inside.shape c.self.inside.sides c.self.inside.next c.self.inside.key c.in-Some.probe joined c.in-Some-probe.place c.in-Ok.glued found
+    (c.in-Ok.ensures ∙ ap (λ f. glued_on c.in-Some.probe.side c.self.inside.shape c.in-Some.probe.row (get_or (rows_in f c.in-Some.probe.bucket) c.in-Some-probe.place no_row).row) facing) in
+    (wide ∙ ap (λ s. length (glued_variables s.shape.left s.shape.right)) c.self.view_is, tt)
