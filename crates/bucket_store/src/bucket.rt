@@ -3,10 +3,10 @@
 ghost use Rattle.std.specs.Prelude.{◌≡◌, ◌<◌, ◌+◌, ◌^◌, ◌++◌, [], ◌∷◌, length, slice_index_or, OnOk, OnErr, IfOk, IfSome};
 ghost use Rattle.tuple_core.specs.Encoded.{IsEncoding, row_of};
 ghost use Rattle.bucket_store.specs.Held.{has_key, no_row, rows_weight};
+ghost use Rattle.bucket_store.specs.Keys.{key_hash};
 ghost use Rattle.bucket_store.specs.Places.{next_place};
 
 use crate::chains::Chains;
-use crate::hashing::key_hash;
 use row_pages::{Pages, Spot};
 use std::alloc::{AllocError, Global};
 use std::marker::Model;
@@ -83,9 +83,11 @@ impl Bucket {
         &mut self,
         alloc: Global,
         key: &[u8],
+        hash: u32,
         row: &Row,
         number: u64,
     ) -> Result<(), AllocError>
+        requires { hash ≡ key_hash key.now }
         ensures ok { OnOk result (self.new ≡ self.old ++ record { key = key.now; row = row.now; number = number } ∷ []) }
         ensures err { OnErr result (self.new ≡ self.old) }
     {
@@ -98,7 +100,7 @@ impl Bucket {
         self.entries.reserve(1)?;
         self.chains.reserve(alloc)?;
         let spot = self.pages.put_row(alloc, key, row)?;
-        self.chains.push(alloc, key_hash(key))?;
+        self.chains.push(alloc, hash)?;
         self.weight = weight;
         match self.entries.push(Stored {
             number,
@@ -122,11 +124,11 @@ impl Bucket {
     }
 
     /// The first place, at or after one, of a row that has the key.
-    pub(crate) fn next(&self, key: &[u8], from: usize) -> Option<u32>
+    pub(crate) fn next(&self, key: &[u8], hash: u32, from: usize) -> Option<u32>
+        requires { hash ≡ key_hash key.now }
         ensures next { result ≡ next_place (has_key key.now) self.now from }
         ensures few { IfSome result (λ place. place + 1 < 2 ^ 32) }
     {
-        let hash = key_hash(key);
         let mut from = from;
         while let Some(place) = self.chains.next(hash, from) {
             if self.piece_at(place as usize).0 == key {

@@ -1,7 +1,8 @@
 //! The rows of one side of a join that are in memory, bucket by bucket, found by their keys without a search.
 //!
 //! 1. [`Buckets::new`] makes so many empty buckets.
-//! 2. [`Buckets::insert`] puts a row behind the others of its key's bucket: the key's bytes and the row's encoding lie
+//! 2. [`Buckets::address`] tells where a key's rows are looked for, once for all calls about the key.
+//!    [`Buckets::insert`] puts a row behind the others of its key's bucket: the key's bytes and the row's encoding lie
 //!    together in the bucket's pages. It keeps with them the number with which the row came.
 //! 3. [`Buckets::probe`] tells the next place of a key's bucket that has this key. [`Buckets::row_at`] reads the row
 //!    there, and [`Buckets::entry`] its number.
@@ -21,4 +22,4 @@ mod hashing;
 mod tests;
 
 pub use bucket::{Bucket, Stored};
-pub use buckets::{Buckets, GREATEST_TOTAL, constant_is_the_limit};
+pub use buckets::{Address, Buckets, GREATEST_TOTAL, constant_is_the_limit};

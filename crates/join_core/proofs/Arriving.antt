@@ -19,6 +19,7 @@ use Rattle.join_core.specs.Kept.{IsHeld, IsJoin}
 use Rattle.join_core.specs.Sides.{TwoSides, buckets_on, joining_of, probing_of, with_buckets}
 use Rattle.join_core.specs.State.{Joining, Pile, Probing, arrived, cursor_start, open_pile, pile_at, rows_of, with_held}
 use Rattle.join_core.specs.Steps.{JoinStep, on_side}
+use Rattle.bucket_store.specs.Keys.{address_of}
 use Rattle.join_core.specs.declared.probe.Probe.{Probe}
 use Rattle.join_core.proofs.Flat.{all_in, each_in, more_in, rows_open}
 use Rattle.join_core.proofs.Pointwise.{new_pends, old_rests}
@@ -195,7 +196,7 @@ pub record Keeps (sd : Side) (s t : Joining) (row : RowValues) : Type 0 where
   pub same_pairs : SameBag (pairs_given t) (pairs_given s)
 
 abbrev probe_begins : Side → TwoSides → Held → Probe
-probe_begins sd sides held = record { side = sd; row = held.row; number = held.number; bucket = bucket_of (length (buckets_on sd sides)) held.key; place = 0; from = 0 }
+probe_begins sd sides held = record { side = sd; row = held.row; number = held.number; address = address_of (length (buckets_on sd sides)) held.key; place = 0; from = 0 }
 
 arrival_keeps : (sd : Side) (shape : Shape) (sides : TwoSides) (left_ended right_ended : Bool) (next : ℕ) (key : Bytes) (row : RowValues) → IsJoin shape sides next key None
     → Keeps sd (joining_of shape sides left_ended right_ended next None)

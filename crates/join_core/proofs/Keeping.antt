@@ -13,6 +13,8 @@ use Rattle.row_match.specs.Shapes.{Shape, key_row, vars_of}
 use Rattle.row_match.specs.declared.shape.Side.{Side}
 use Rattle.row_match.specs.declared.shape.Side.TheVariants as side
 use Rattle.bucket_store.specs.Held.{ArePlaced, Held, HeldList, rows_in, with_row}
+use Rattle.bucket_store.specs.Keys.{address_of}
+use Rattle.bucket_store.specs.declared.buckets.Address.{Address}
 use Rattle.bucket_store.proofs.Keeping.{belong_more, placed_set}
 use Rattle.join_core.specs.Kept.{AreRising, IsHeld, IsJoin, IsProbing, IsSide, facing_rows}
 use Rattle.join_core.specs.Sides.{TwoSides, buckets_on, opposite, probing_of, with_buckets}
@@ -72,6 +74,9 @@ many_on : (sd : Side) (sides : TwoSides) → length sides.left ≡ length sides.
 many_on side.Left sides e = sym e
 many_on side.Right sides e = e
 
+bucket_is : {shape : Shape} {sides : TwoSides} {next : ℕ} {key : Bytes} {p : Probe} → IsProbing shape sides next key p → p.address.bucket ≡ bucket_of (length (buckets_on p.side sides)) key
+bucket_is h = ap (λ (a : Address). a.bucket) h.address_is
+
 pub faces : (shape : Shape) (sides : TwoSides) (next : ℕ) (key : Bytes) (p : Probe) → IsSide side.Left shape next sides.left → IsSide side.Right shape next sides.right → length sides.left ≡ length sides.right
     → IsProbing shape sides next key p → Faces (buckets_on p.side sides) (buckets_on (opposite p.side) sides) (probing_of p) (own_of key p) p.place
 faces shape sides next key p l r many h = record {
@@ -79,12 +84,12 @@ faces shape sides next key p l r many h = record {
   theirs_placed = theirs.placed;
   many = many_on p.side sides many;
   inside = inside;
-  mine_rising = mine.rising p.bucket inside;
-  theirs_rising = theirs.rising p.bucket (omega (arith, inside, many_on p.side sides many));
+  mine_rising = mine.rising p.address.bucket inside;
+  theirs_rising = theirs.rising p.address.bucket (omega (arith, inside, many_on p.side sides many));
   others = h.others;
   last = h.own;
   number_is = refl;
-  bucket_is = sym h.bucket_is;
+  bucket_is = sym (bucket_is h);
   behind = h.behind;
   ahead = h.ahead;
 }
@@ -95,13 +100,13 @@ faces shape sides next key p l r many h = record {
     theirs : IsSide (opposite p.side) shape next (buckets_on (opposite p.side) sides)
     theirs = side_on (opposite p.side) shape sides next l r
 
-    inside : p.bucket < length (buckets_on p.side sides)
-    inside = subst (λ b. b < length (buckets_on p.side sides)) (sym h.bucket_is) (bucket_inside (buckets_on p.side sides) key mine.placed)
+    inside : p.address.bucket < length (buckets_on p.side sides)
+    inside = subst (λ b. b < length (buckets_on p.side sides)) (sym (bucket_is h)) (bucket_inside (buckets_on p.side sides) key mine.placed)
 
 -- the facing rows, in the words of the call that finds them
 pub facing_is : (shape : Shape) (sides : TwoSides) (next : ℕ) (key : Bytes) (p : Probe) → length sides.left ≡ length sides.right → IsProbing shape sides next key p
-    → bucket_of (length (buckets_on (opposite p.side) sides)) key ≡ p.bucket
-facing_is shape sides next key p many h = ap (λ n. bucket_of n key) (many_on p.side sides many) ∙ sym h.bucket_is
+    → bucket_of (length (buckets_on (opposite p.side) sides)) key ≡ p.address.bucket
+facing_is shape sides next key p many h = ap (λ n. bucket_of n key) (many_on p.side sides many) ∙ sym (bucket_is h)
 
 -- the probe goes on behind the place where a match was found
 pub probing_on : (shape : Shape) (sides : TwoSides) (next : ℕ) (key : Bytes) (p after : Probe) (at : ℕ) (partner : Held) → IsProbing shape sides next key p
@@ -110,7 +115,7 @@ pub probing_on : (shape : Shape) (sides : TwoSides) (next : ℕ) (key : Bytes) (
 probing_on shape sides next key p after at partner h rising inside is moved = subst (IsProbing shape sides next key) (sym moved) (record {
   last = h.last;
   key_is = h.key_is;
-  bucket_is = h.bucket_is;
+  address_is = h.address_is;
   others = h.others;
   own = h.own;
   behind = λ k d l i. elim (cases_order k at) [
@@ -139,7 +144,7 @@ module _ (shape : Shape) (sides : TwoSides) (next : ℕ) (key other : Bytes) (ro
 
   pub keeps_arrival : (sd : Side) → key ≡ row_encoding (key_row sd shape row) → length row ≡ length (vars_of sd shape)
       → IsJoin shape (with_buckets sd sides (with_row (buckets_on sd sides) (record { key = key; row = row; number = next }))) (next + 1) key
-      (Some (record { side = sd; row = row; number = next; bucket = bucket_of (length (buckets_on sd sides)) key; place = 0; from = 0 }))
+      (Some (record { side = sd; row = row; number = next; address = address_of (length (buckets_on sd sides)) key; place = 0; from = 0 }))
   keeps_arrival side.Left key_is wide = record {
     left = side_more side.Left shape next sides.left (record { key = key; row = row; number = next }) h.left (new_held side.Left key_is wide) refl;
     right = side_older side.Right shape next sides.right h.right;
@@ -147,7 +152,7 @@ module _ (shape : Shape) (sides : TwoSides) (next : ℕ) (key other : Bytes) (ro
     probing = record {
       last = refl;
       key_is = key_is;
-      bucket_is = ap (λ n. bucket_of n key) (sym (count_kept side.Left sides (record { key = key; row = row; number = next })));
+      address_is = ap (λ n. address_of n key) (sym (count_kept side.Left sides (record { key = key; row = row; number = next })));
       others = rows_in sides.left (bucket_of (length sides.left) key);
       own = row_there sides.left (record { key = key; row = row; number = next }) h.left.placed;
       behind = λ k d l i. absurd (omega arith);
@@ -161,7 +166,7 @@ module _ (shape : Shape) (sides : TwoSides) (next : ℕ) (key other : Bytes) (ro
     probing = record {
       last = refl;
       key_is = key_is;
-      bucket_is = ap (λ n. bucket_of n key) (sym (count_kept side.Right sides (record { key = key; row = row; number = next })));
+      address_is = ap (λ n. address_of n key) (sym (count_kept side.Right sides (record { key = key; row = row; number = next })));
       others = rows_in sides.right (bucket_of (length sides.right) key);
       own = row_there sides.right (record { key = key; row = row; number = next }) h.right.placed;
       behind = λ k d l i. absurd (omega arith);
@@ -172,3 +177,8 @@ module _ (shape : Shape) (sides : TwoSides) (next : ℕ) (key other : Bytes) (ro
 pub no_probe : (o : Option Probe) → option_map probing_of o ≡ None → o ≡ None
 no_probe None e = refl
 no_probe (Some p) e = absurd (let no : Some (probing_of p) ≡ None = e in cc)
+
+-- the probe's address is that of its key among the facing buckets too
+pub address_on : (shape : Shape) (sides : TwoSides) (next : ℕ) (key : Bytes) (p : Probe) → length sides.left ≡ length sides.right → IsProbing shape sides next key p
+    → p.address ≡ address_of (length (buckets_on (opposite p.side) sides)) key
+address_on shape sides next key p many h = h.address_is ∙ ap (λ n. address_of n key) (sym (many_on p.side sides many))

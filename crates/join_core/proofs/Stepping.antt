@@ -148,7 +148,7 @@ module _ (shape : Shape) (sides : TwoSides) (left_ended right_ended : Bool) (nex
 
   module _ (p : Probe) where
     pub nothing_given : (own : Held) (place : ℕ) → Faces (buckets_on p.side sides) (buckets_on (opposite p.side) sides) (probing_of p) own place → length sides.left ≡ length sides.right
-        → next_place (has_key own.key) (rows_in (buckets_on (opposite p.side) sides) p.bucket) place ≡ None
+        → next_place (has_key own.key) (rows_in (buckets_on (opposite p.side) sides) p.address.bucket) place ≡ None
         → GivesNothing (state (Some p)) (state None) × JoinStep (state (Some p)) (state None) [] [] []
     nothing_given own place f many none = (
       record { none = pairs_alike (λ l r. is_match l r && (have_met (state (Some p)) l r && is_pending (state (Some p)) l r)) (λ l r. false) (rows_of (map open_pile sides.left)) (rows_of (map open_pile sides.right)) (on_rows (λ l r. is_match l r && (have_met (state (Some p)) l r && is_pending (state (Some p)) l r)) (λ l r. false) pending) ∙ no_pairs (rows_of (map open_pile sides.left)) (rows_of (map open_pile sides.right)); ended = refl; same_given = same_pairs },
@@ -220,7 +220,7 @@ module _ (shape : Shape) (sides : TwoSides) (left_ended right_ended : Bool) (nex
   from_pends sd q own partner place at f found is = pair_pends (buckets_on sd sides) (buckets_on (opposite sd) sides) q own place f at partner found is
 
   pub row_given : (p after : Probe) (own partner : Held) (at : ℕ) (row : RowValues) → Faces (buckets_on p.side sides) (buckets_on (opposite p.side) sides) (probing_of p) own p.place → length sides.left ≡ length sides.right
-      → next_place (has_key own.key) (rows_in (buckets_on (opposite p.side) sides) p.bucket) p.place ≡ Some at → get_or (rows_in (buckets_on (opposite p.side) sides) p.bucket) at partner ≡ partner
+      → next_place (has_key own.key) (rows_in (buckets_on (opposite p.side) sides) p.address.bucket) p.place ≡ Some at → get_or (rows_in (buckets_on (opposite p.side) sides) p.address.bucket) at partner ≡ partner
       → probing_of after ≡ record (probing_of p) { from = partner.number + 1 } → partner.number < next
       → row ≡ glued shape (left_of p.side own partner).row (right_of p.side own partner).row
       → GivesMatch (state (Some p)) (state (Some after)) row

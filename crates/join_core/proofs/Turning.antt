@@ -51,7 +51,7 @@ module _ (shape : Shape) (sides : TwoSides) (next : ℕ) (key : Bytes) (p : Prob
   mine : IsSide p.side shape next (buckets_on p.side sides)
   mine = side_on p.side shape sides next h.left h.right
 
-  pub facing_there : p.bucket < length (buckets_on (opposite p.side) sides)
+  pub facing_there : p.address.bucket < length (buckets_on (opposite p.side) sides)
   facing_there = let l = face.inside in omega (arith, l, face.many)
 
   pub found_inside : (at : ℕ) → Some at ≡ found_in sides key p → at < length (facing_rows sides p)
@@ -61,7 +61,7 @@ module _ (shape : Shape) (sides : TwoSides) (next : ℕ) (key : Bytes) (p : Prob
   partner at = get_or (facing_rows sides p) at no_row
 
   partner_held : (at : ℕ) → Some at ≡ found_in sides key p → IsHeld (opposite p.side) shape next (get_or (facing_rows sides p) at no_row)
-  partner_held at e = theirs.each p.bucket facing_there at no_row (found_inside at e)
+  partner_held at e = theirs.each p.address.bucket facing_there at no_row (found_inside at e)
 
   pub partner_wide : (at : ℕ) → Some at ≡ found_in sides key p → length (get_or (facing_rows sides p) at no_row).row ≡ length (vars_of (opposite p.side) shape)
   partner_wide at e = (partner_held at e).wide
@@ -71,8 +71,8 @@ module _ (shape : Shape) (sides : TwoSides) (next : ℕ) (key : Bytes) (p : Prob
 
   pub own_wide : length p.row ≡ length (vars_of p.side shape)
   own_wide =
-      let there : length probing.others < length (rows_in (buckets_on p.side sides) p.bucket) = omega (arith, ap length probing.own, length_push probing.others (own_of key p)) in
-      let own_held = mine.each p.bucket face.inside (length probing.others) no_row there in
+      let there : length probing.others < length (rows_in (buckets_on p.side sides) p.address.bucket) = omega (arith, ap length probing.own, length_push probing.others (own_of key p)) in
+      let own_held = mine.each p.address.bucket face.inside (length probing.others) no_row there in
       subst (λ (x : Held). length x.row ≡ length (vars_of p.side shape)) (ap (λ rows. get_or rows (length probing.others) no_row) probing.own ∙ get_or_push probing.others (own_of key p) no_row (length probing.others) refl) own_held.wide
 
   pub gives_wide : (at : ℕ) (row : RowValues) → Some at ≡ found_in sides key p → row ≡ glued_on p.side shape p.row (get_or (facing_rows sides p) at no_row).row
@@ -110,7 +110,7 @@ module _ (shape : Shape) (sides : TwoSides) (next : ℕ) (key : Bytes) (p : Prob
     right = h.right;
     many = h.many;
     probing = probing_on shape sides next key p (record p { place = at + 1; from = (get_or (facing_rows sides p) at no_row).number + 1 }) at (get_or (facing_rows sides p) at no_row) probing
-        (theirs.rising p.bucket facing_there) (found_inside at e) (same_partner at e) refl;
+        (theirs.rising p.address.bucket facing_there) (found_inside at e) (same_partner at e) refl;
   })
 
   pub gives_nothing : (left_ended right_ended : Bool) → None ≡ found_in sides key p

@@ -4,12 +4,12 @@ use Rattle.std.specs.List.{AllPairs}
 use Rattle.std.specs.Option.{MatchOption}
 use Rattle.med_prelude.specs.Texts.{Bytes}
 use Rattle.tuple_core.specs.Encoding.{row_encoding}
-use Rattle.tuple_core.specs.Hashing.{bucket_of}
 use Rattle.tuple_core.specs.Values.{FitsRow}
 use Rattle.row_match.specs.Shapes.{Shape, key_row, vars_of}
 use Rattle.row_match.specs.declared.shape.Side.{Side}
 use Rattle.row_match.specs.declared.shape.Side.TheVariants as side
 use Rattle.bucket_store.specs.Held.{ArePlaced, Held, HeldList, rows_in}
+use Rattle.bucket_store.specs.Keys.{address_of}
 use Rattle.join_core.specs.Sides.{TwoSides, buckets_on, opposite}
 use Rattle.join_core.specs.declared.probe.Probe.{Probe}
 
@@ -31,15 +31,15 @@ pub record IsSide (side : Side) (shape : Shape) (next : ℕ) (buckets : List Hel
 
 -- the rows with which the probe is compared
 abbrev pub facing_rows : TwoSides → Probe → HeldList
-facing_rows sides p = rows_in (buckets_on (opposite p.side) sides) p.bucket
+facing_rows sides p = rows_in (buckets_on (opposite p.side) sides) p.address.bucket
 
 -- The probe is that of the last row, which lies last in its bucket. The facing rows before its place have numbers below `from`, the others not.
 pub record IsProbing (shape : Shape) (sides : TwoSides) (next : ℕ) (key : Bytes) (p : Probe) : Type 0 where
   pub last : p.number + 1 ≡ next
   pub key_is : key ≡ row_encoding (key_row p.side shape p.row)
-  pub bucket_is : p.bucket ≡ bucket_of (length (buckets_on p.side sides)) key
+  pub address_is : p.address ≡ address_of (length (buckets_on p.side sides)) key
   pub others : HeldList
-  pub own : rows_in (buckets_on p.side sides) p.bucket ≡ others ++ record { key = key; row = p.row; number = p.number } ∷ []
+  pub own : rows_in (buckets_on p.side sides) p.address.bucket ≡ others ++ record { key = key; row = p.row; number = p.number } ∷ []
   pub behind : (k : ℕ) (d : Held) → k < p.place → k < length (facing_rows sides p) → (slice_index_or (facing_rows sides p) k d).number < p.from
   pub ahead : (k : ℕ) (d : Held) → p.place ≤ k → k < length (facing_rows sides p) → p.from ≤ (slice_index_or (facing_rows sides p) k d).number
 

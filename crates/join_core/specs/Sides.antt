@@ -26,7 +26,7 @@ with_buckets side.Left sides buckets = record sides { left = buckets }
 with_buckets side.Right sides buckets = record sides { right = buckets }
 
 abbrev pub probing_of : Probe → Probing
-probing_of p = record { side = p.side; number = p.number; bucket = p.bucket; from = p.from }
+probing_of p = record { side = p.side; number = p.number; bucket = p.address.bucket; from = p.from }
 
 -- a join whose rows are all in memory
 abbrev pub joining_of : Shape → TwoSides → Bool → Bool → ℕ → Option Probe → Joining

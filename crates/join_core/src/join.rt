@@ -20,7 +20,7 @@ use bucket_store::Buckets;
 use row_match::{JoinShape, Side};
 use std::alloc::{AllocError, Global};
 use std::marker::Model;
-use tuple_core::{KeyRoom, Row, bucket_of};
+use tuple_core::{KeyRoom, Row};
 
 /// What came of a row.
 #[derive(Debug, Drop)]
@@ -99,14 +99,18 @@ impl Join {
         };
         self.shape.key_of(side, &row, &mut self.key);
         let key = self.key.as_slice();
-        if let Err(AllocError) = self.sides.insert(alloc, side, key, &row, self.next) {
+        let address = self.sides.on(side).address(key);
+        if let Err(AllocError) = self
+            .sides
+            .insert(alloc, side, address, key, &row, self.next)
+        {
             return Arrive::NoMemory(row);
         }
         self.probe = Some(Probe {
             side,
             row,
             number: self.next,
-            bucket: bucket_of(key, self.sides.on(side).count()),
+            address,
             place: 0,
             from: 0,
         });
@@ -124,14 +128,14 @@ impl Join {
             return OutStep::Nothing;
         };
         let facing = self.sides.on(opposite(probe.side));
-        let Some(place) = facing.probe(self.key.as_slice(), probe.place) else {
+        let Some(place) = facing.probe(probe.address, self.key.as_slice(), probe.place) else {
             self.probe = None;
             return OutStep::Nothing;
         };
         let Ok(glued) = glue_at(alloc, &self.shape, facing, probe, place) else {
             return OutStep::NoMemory;
         };
-        let number = facing.entry(probe.bucket, place).number();
+        let number = facing.entry(probe.address.bucket, place).number();
         self.probe = moved_on(self.probe.take(), place + 1, number + 1);
         OutStep::Row(glued)
     }
@@ -188,13 +192,13 @@ fn glue_at(
     probe: &Probe,
     place: u32,
 ) -> Result<Row, AllocError>
-    requires bucket { probe.now.bucket < length facing.now }
-    requires place { place < length (rows_in facing.now probe.now.bucket) }
+    requires bucket { probe.now.address.bucket < length facing.now }
+    requires place { place < length (rows_in facing.now probe.now.address.bucket) }
     requires own { length probe.now.row ≡ length (vars_of probe.now.side shape.now) }
-    requires other { length (slice_index_or (rows_in facing.now probe.now.bucket) place no_row).row ≡ length (vars_of (opposite probe.now.side) shape.now) }
-    ensures { IfOk result (λ r. r ≡ glued_on probe.now.side shape.now probe.now.row (slice_index_or (rows_in facing.now probe.now.bucket) place no_row).row) }
+    requires other { length (slice_index_or (rows_in facing.now probe.now.address.bucket) place no_row).row ≡ length (vars_of (opposite probe.now.side) shape.now) }
+    ensures { IfOk result (λ r. r ≡ glued_on probe.now.side shape.now probe.now.row (slice_index_or (rows_in facing.now probe.now.address.bucket) place no_row).row) }
 {
-    let other = facing.row_at(alloc, probe.bucket, place)?;
+    let other = facing.row_at(alloc, probe.address.bucket, place)?;
     match probe.side {
         Side::Left => shape.glue(alloc, &probe.row, &other),
         Side::Right => shape.glue(alloc, &other, &probe.row),

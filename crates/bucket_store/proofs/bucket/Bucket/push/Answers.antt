@@ -46,7 +46,7 @@ returns-in_err-push-clause-err c = on_any_error c.from_residual-in_err-push.resu
 pub invariant_of-self-2 : goal.invariant_of-self-2
 invariant_of-self-2 c = subst (λ entries. AreStored c.put_row.new.self entries c.push.new.self c.in-Some.weight) (sym (c.in-Ok-push.ensures.items ∙ ap (λ es. es ++ stored ∷ []) c.in_ok-reserve.ensures.items))
     (stored_more c.self.inside.pages c.put_row.new.self c.self.inside.entries.items c.self.inside.chains c.push.new.self c.self.inside.weight c.in-Some.weight stored c.args.key.now c.args.row.now
-    c.put_row.ensures.grows c.self.invariant c.in_ok-spot.ensures.lies c.in_ok-spot.ensures.piece (grind (arith, c.in-Ok.ensures)) c.put_row.ensures.fits (c.in_ok-push.ensures.ok ∙ ap₂ (λ hs h. hs ++ h ∷ []) c.reserve-2.ensures c.key_hash.ensures) (grind (arith, c.in-Some.ensures, c.weight.ensures.weight)))
+    c.put_row.ensures.grows c.self.invariant c.in_ok-spot.ensures.lies c.in_ok-spot.ensures.piece (grind (arith, c.in-Ok.ensures)) c.put_row.ensures.fits (c.in_ok-push.ensures.ok ∙ ap₂ (λ hs h. hs ++ h ∷ []) c.reserve-2.ensures c.requires) (grind (arith, c.in-Some.ensures, c.weight.ensures.weight)))
   where
     stored : Stored
     stored = record { number = c.args.number; spot = c.in_ok-spot.spot; key_length = c.in-Ok.key_length }
