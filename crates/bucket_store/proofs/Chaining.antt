@@ -1,5 +1,5 @@
 -- Chains gain a place.
-use Rattle.std.proofs.Common.{◌≡◌, ◌<◌, ◌≤◌, ◌+◌, ◌%◌, ◌++◌, ℕ, Bool, true, false, List, [], ◌∷◌, length, get_or, set, take, replicate, Option, Some, None, inl, inr, refl, sym, ap, ap₂, subst, ◌∙◌, arith}
+use Rattle.std.proofs.Common.{◌≡◌, ◌<◌, ◌≤◌, ◌+◌, ◌*◌, ◌%◌, ◌++◌, ℕ, Bool, true, false, List, [], ◌∷◌, length, get_or, set, take, replicate, Option, Some, None, inl, inr, refl, sym, ap, ap₂, subst, ◌∙◌, arith}
 use Rattle.std.proofs.lemmas.Bool.{cases_lt, cases_order, cases_eq, false≢true, eqb-true, eq-eqb}
 use Rattle.std.proofs.lemmas.List.{get_or_default, get_or-map, get_or-replicate, length-replicate, length-take-le, take_more, get_or-set_same, get_or-set_other, get_or_append_left, get_or_push, length-map, length-set, length_push, map-append, map-set, set-get_or}
 use Rattle.bucket_store.specs.Chained.{AreChained, IsLastPlace, Spans, hashes_of, in_slot}
@@ -10,7 +10,7 @@ use Rattle.bucket_store.proofs.Places.{more_fails, more_passes, more_some, next_
 
 -- `AreChained`, with the number of slots and the hashes by name
 record ChainedAt (count : ℕ) (hashes : List ℕ) (slots : List (Option Chain)) (links : List Link) : Type 0 where
-  room : length links ≤ count
+  room : 2 * length links ≤ count
   spans : (slot : ℕ) → slot < count → Spans (get_or slots slot None) (in_slot count slot) hashes
   leads : (place : ℕ) (d : Link) → place < length links
       → (get_or links place d).next ≡ next_place (in_slot count ((get_or links place d).hash % count)) hashes (place + 1)
@@ -75,7 +75,7 @@ last_of slots links chain slot h inside there = let span : Spans (Some chain) (i
 
 -- ---- the first place of a slot
 
-pub chained_first : (slots : List (Option Chain)) (links : List Link) (chain : Chain) (link : Link) → AreChained slots links → length links < length slots
+pub chained_first : (slots : List (Option Chain)) (links : List Link) (chain : Chain) (link : Link) → AreChained slots links → 2 * (length links + 1) ≤ length slots
     → get_or slots (link.hash % length slots) None ≡ None → chain.first ≡ length links → chain.last ≡ length links → link.next ≡ None
     → AreChained (set slots (link.hash % length slots) (Some chain)) (links ++ link ∷ [])
 chained_first slots links chain link h room empty first last ends =
@@ -132,7 +132,7 @@ chained_first slots links chain link h room empty first last ends =
 
 -- ---- one place more of a slot
 
-pub chained_after : (slots : List (Option Chain)) (links : List Link) (old chain : Chain) (before link : Link) → AreChained slots links → length links < length slots
+pub chained_after : (slots : List (Option Chain)) (links : List Link) (old chain : Chain) (before link : Link) → AreChained slots links → 2 * (length links + 1) ≤ length slots
     → get_or slots (link.hash % length slots) None ≡ Some old → chain.first ≡ old.first → chain.last ≡ length links
     → before.hash ≡ (get_or links old.last before).hash → before.next ≡ Some (length links) → link.next ≡ None
     → AreChained (set slots (link.hash % length slots) (Some chain)) (set links old.last before ++ link ∷ [])
@@ -217,14 +217,14 @@ chained_after slots links old chain before link h room there first last kept joi
 
 -- ---- as `append` leaves them
 
-pub appended_first : (slots more_slots : List (Option Chain)) (links more : List Link) (hash slot place : ℕ) → AreChained slots links → length links < length slots → slot ≡ hash % length slots → place ≡ length links
+pub appended_first : (slots more_slots : List (Option Chain)) (links more : List Link) (hash slot place : ℕ) → AreChained slots links → 2 * (length links + 1) ≤ length slots → slot ≡ hash % length slots → place ≡ length links
     → get_or slots slot None ≡ None → more_slots ≡ set slots slot (Some (record { first = place; last = place })) → more ≡ links ++ record { hash = hash; next = None } ∷ [] → AreChained more_slots more
 appended_first slots more_slots links more hash slot place h room at is empty slots_are links_are =
     subst (λ ss. AreChained ss more) (sym slots_are) (subst (AreChained (set slots slot (Some (record { first = place; last = place })))) (sym links_are)
     (subst (λ s. AreChained (set slots s (Some (record { first = place; last = place }))) (links ++ record { hash = hash; next = None } ∷ [])) (sym at)
     (chained_first slots links (record { first = place; last = place }) (record { hash = hash; next = None }) h room (subst (λ s. get_or slots s None ≡ None) at empty) is is refl)))
 
-pub appended_after : (slots more_slots : List (Option Chain)) (links more : List Link) (hash slot place : ℕ) (old : Chain) (before : Link) → AreChained slots links → length links < length slots → slot ≡ hash % length slots → place ≡ length links
+pub appended_after : (slots more_slots : List (Option Chain)) (links more : List Link) (hash slot place : ℕ) (old : Chain) (before : Link) → AreChained slots links → 2 * (length links + 1) ≤ length slots → slot ≡ hash % length slots → place ≡ length links
     → get_or slots slot None ≡ Some old → before ≡ get_or links old.last before
     → more_slots ≡ set slots slot (Some (record { first = old.first; last = place })) → more ≡ set links old.last (record { hash = before.hash; next = Some place }) ++ record { hash = hash; next = None } ∷ []
     → AreChained more_slots more

@@ -1,5 +1,5 @@
 -- Chains of places that have one slot.
-use Rattle.std.specs.Prelude.{◌≡◌, ◌≤◌, ◌<◌, ◌+◌, ◌%◌, ◌==◌, max, ℕ, Bool, true, List, length, map, slice_index_or, Option, Some, None}
+use Rattle.std.specs.Prelude.{◌≡◌, ◌≤◌, ◌<◌, ◌+◌, ◌*◌, ◌%◌, ◌==◌, max, ℕ, Bool, true, List, length, map, slice_index_or, Option, Some, None}
 use Rattle.bucket_store.specs.Places.{next_place}
 use Rattle.bucket_store.specs.declared.chains.Chain.{Chain}
 use Rattle.bucket_store.specs.declared.chains.Link.{Link}
@@ -22,9 +22,9 @@ abbrev pub Spans : Option Chain → (ℕ → Bool) → List ℕ → Type 0
 Spans None test hashes = next_place test hashes 0 ≡ None
 Spans (Some chain) test hashes = (next_place test hashes 0 ≡ Some chain.first) × IsLastPlace test hashes chain.last
 
--- Each slot spans its places, and each link leads to the next place of its slot. There are as many slots as links, or more.
+-- Each slot spans its places, and each link leads to the next place of its slot. There are twice as many slots as links, or more.
 pub record AreChained (slots : List (Option Chain)) (links : List Link) : Type 0 where
-  pub room : length links ≤ length slots
+  pub room : 2 * length links ≤ length slots
   pub spans : (slot : ℕ) → slot < length slots → Spans (slice_index_or slots slot None) (in_slot (length slots) slot) (hashes_of links)
   pub leads : (place : ℕ) (d : Link) → place < length links
       → (slice_index_or links place d).next ≡ next_place (in_slot (length slots) ((slice_index_or links place d).hash % length slots)) (hashes_of links) (place + 1)

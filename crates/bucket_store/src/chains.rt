@@ -1,14 +1,14 @@
 //! Chains of places: those of one hash are found without a look at most others.
 
-ghost use Rattle.std.specs.Prelude.{◌≡◌, ◌<◌, ◌≤◌, ◌+◌, ◌%◌, ◌^◌, ◌==◌, ◌++◌, [], ◌∷◌, length, vec_len, vec_capacity, IfOk, IfSome, OnOk, OnErr};
+ghost use Rattle.std.specs.Prelude.{◌≡◌, ◌<◌, ◌≤◌, ◌+◌, ◌*◌, ◌%◌, ◌^◌, ◌==◌, ◌++◌, [], ◌∷◌, length, vec_len, vec_capacity, IfOk, IfSome, OnOk, OnErr};
 ghost use Rattle.bucket_store.specs.Chained.{AreChained, IsOnWay, hashes_of};
 ghost use Rattle.bucket_store.specs.Places.{next_place};
 
 use std::alloc::{AllocError, Global};
 use std::marker::Model;
 
-// The slots of a list that isn't empty, at first.
-const FEWEST_SLOTS: usize = 16;
+// For how many links a list that isn't empty has room, at first.
+const FEWEST_LINKS: usize = 8;
 
 // The first and the last place of a slot.
 #[derive(Clone, Copy, Debug)]
@@ -87,7 +87,7 @@ fn next_of(slots: &[Option<Chain>], links: &[Link], hash: u32, from: usize) -> O
 // Puts a link behind the others, for which there is room.
 fn append(slots: &mut Vec<Option<Chain>>, links: &mut Vec<Link>, hash: u32)
     requires chained { AreChained slots.old.items links.old.items }
-    requires slot { length links.old.items < length slots.old.items }
+    requires slot { 2 * (length links.old.items + 1) ≤ length slots.old.items }
     requires place { length links.old.items < 2 ^ 32 }
     requires room { vec_len links.old < vec_capacity links.old }
     ensures chained { AreChained slots.new.items links.new.items }
@@ -118,7 +118,8 @@ fn append(slots: &mut Vec<Option<Chain>>, links: &mut Vec<Link>, hash: u32)
     }
 }
 
-// Room for one link more: where all slots have one, twice as many, into which the hashes are put anew.
+// Room for one link more: where there are half as many links as slots, twice as many slots, into which the hashes are put
+// anew.
 fn make_room(
     alloc: Global,
     slots: &mut Vec<Option<Chain>>,
@@ -128,15 +129,15 @@ fn make_room(
     requires few { length links.old.items < 2 ^ 32 }
     ensures chained { AreChained slots.new.items links.new.items }
     ensures hashes { hashes_of links.new.items ≡ hashes_of links.old.items }
-    ensures slot { OnOk result (length links.new.items < length slots.new.items) }
+    ensures slot { OnOk result (2 * (length links.new.items + 1) ≤ length slots.new.items) }
     ensures room { OnOk result (vec_len links.new < vec_capacity links.new) }
 {
-    if links.len() < slots.len() {
+    if 2 * (links.len() + 1) <= slots.len() {
         return links.reserve(1);
     }
-    let count = (slots.len() * 2).max(FEWEST_SLOTS);
-    let mut more_slots = vec![in alloc; None; count]?;
-    let mut more_links = Vec::with_capacity(alloc, count)?;
+    let room = slots.len().max(FEWEST_LINKS);
+    let mut more_slots = vec![in alloc; None; 2 * room]?;
+    let mut more_links = Vec::with_capacity(alloc, room)?;
     for link in links.iter() {
         append(&mut more_slots, &mut more_links, link.hash);
     }
