@@ -17,7 +17,7 @@ use Rattle.collect_core.specs.Giving.{FailsOpening, Gives, GivesMember, IsAt, Is
 use Rattle.collect_core.specs.Members.{AreSound, HasAccepted, IsMember, Member, MemberAccepted, end_of, fresh_group, fresh_members, member_left, member_now, member_now_with}
 use Rattle.collect_core.specs.Reading.{HasBegun, IsReader, Reader, ReaderAccepted}
 use Rattle.collect_core.specs.Selecting.{Select, selected_row, selected_rows}
-use Rattle.collect_core.specs.Steps.{Falls, Gathers, GrewTo, ReadsOn, Steps, StepsMember, gave, given_rows, with_rows}
+use Rattle.collect_core.specs.Steps.{AcceptsHeld, Falls, Gathers, GrewTo, ReadsHeld, ReadsOn, Steps, StepsHeld, StepsMember, gave, given_rows, with_rows}
 use Rattle.collect_core.specs.declared.reader.Collected.{Collected}
 use Rattle.collect_core.specs.declared.reader.Collected.TheVariants as collected
 use Rattle.collect_core.proofs.Places.{all_at, all_set, bag_set, filter_map_append, some_holds, some_inside, stands_at, weight_set, zip_at, zip_self_set, zip_set, zip_set_left, zip_there}
@@ -80,31 +80,65 @@ pub member_adds : {S M : Type 0} (source : Source S M) (select : Select) (old ne
     → StepsMember source select old new result → MemberAccepted source old rows → Adds source select new result rows
 member_adds source select old new result rows steps h = adds_with source select old.name old.location old.opening_failed old.reader new result rows steps h
 
+-- what one member adds of what it holds
+
+reader_adds_held : {S M : Type 0} (source : Source S M) (select : Select) (name : MemberName) (location : List ℕ) (failed : Bool) (r q : Reader S) (result : Collected) (rows : RowList)
+    → ReadsHeld source select r q result → ReaderAccepted source r rows → Adds source select (record { name = name; location = location; opening_failed = failed; reader = Some q }) result rows
+reader_adds_held source select name location failed r q (collected.Row values) rows reads h = reader_adds source select name location failed r q (collected.Row values) rows reads h
+reader_adds_held source select name location failed r q collected.Moved rows (inl accepts) h = reader_adds source select name location failed r q collected.Moved rows (inl accepts) h
+reader_adds_held source select name location failed r q collected.Moved rows (inr reaches) h = reader_adds source select name location failed r q collected.Moved rows (inr (inl reaches)) h
+reader_adds_held source select name location failed r q collected.Still rows (inl over) h = reader_adds source select name location failed r q collected.Still rows (inl over) h
+reader_adds_held source select name location failed r q collected.Still rows (inr finds) h =
+    record { more = []; few = omega arith; has = subst (ReaderAccepted source q) (sym (append-nil rows)) (finds.nothing.accepted rows h); selected = refl }
+reader_adds_held source select name location failed r q collected.NoMemory rows reads h = reader_adds source select name location failed r q collected.NoMemory rows reads h
+
+adds_held_with : {S M : Type 0} (source : Source S M) (select : Select) (name : MemberName) (location : List ℕ) (failed : Bool) (reader : Option (Reader S)) (new : Member S) (result : Collected) (rows : RowList)
+    → AcceptsHeld source select (record { name = name; location = location; opening_failed = failed; reader = reader }) new result
+    → MemberAccepted source (record { name = name; location = location; opening_failed = failed; reader = reader }) rows → Adds source select new result rows
+adds_held_with source select name location failed None new result rows idle h = adds_with source select name location failed None new result rows idle h
+adds_held_with source select name location failed (Some r) new result rows (q, is, same, reads) h =
+    subst (λ m. Adds source select m result rows) (sym is) (reader_adds_held source select name location failed r q result rows reads h)
+
+pub member_adds_held : {S M : Type 0} (source : Source S M) (select : Select) (old new : Member S) (result : Collected) (rows : RowList)
+    → AcceptsHeld source select old new result → MemberAccepted source old rows → Adds source select new result rows
+member_adds_held source select old new result rows steps h = adds_held_with source select old.name old.location old.opening_failed old.reader new result rows steps h
+
 -- ---- what the collector gathers
 
 same_grew : (rows : RowList) → GrewTo rows rows
 same_grew rows = ([], sym (append-nil rows))
 
-pub gathers : {S M : Type 0} (source : Source S M) (s t : Collecting S) (index : ℕ) (result : Collected) (accepted : List RowList)
-    → Steps source s t index result → HasAccepted source s.members accepted → Gathers source s t index result accepted
-gathers source s t index result accepted steps has =
+gathers_by : {S M : Type 0} (source : Source S M) (s t : Collecting S) (index : ℕ) (result : Collected) (accepted : List RowList) (old new : Member S) → slice_get s.members index ≡ Some old
+    → t ≡ record s { members = set s.members index new } → ((rows : RowList) → MemberAccepted source old rows → Adds source s.select new result rows) → HasAccepted source s.members accepted
+    → Gathers source s t index result accepted
+gathers_by source s t index result accepted old new at changed adding has =
     let rows : RowList = slice_index_or accepted index [] in
-    let there : slice_get accepted index ≡ Some rows = zip_there (MemberAccepted source) s.members accepted index steps.old [] steps.at has in
-    let adds = member_adds source s.select steps.old steps.new result rows steps.step (zip_at (MemberAccepted source) s.members accepted index steps.old [] steps.at has) in
-    let members : HasAccepted source (set s.members index steps.new) (set accepted index (rows ++ adds.more)) =
-    zip_set (MemberAccepted source) s.members accepted index steps.new (rows ++ adds.more) has adds.has in
+    let there : slice_get accepted index ≡ Some rows = zip_there (MemberAccepted source) s.members accepted index old [] at has in
+    let adds = adding rows (zip_at (MemberAccepted source) s.members accepted index old [] at has) in
+    let members : HasAccepted source (set s.members index new) (set accepted index (rows ++ adds.more)) =
+    zip_set (MemberAccepted source) s.members accepted index new (rows ++ adds.more) has adds.has in
     let bag : SameBag (given_rows s.select (with_rows accepted index adds.more)) (given_rows s.select accepted ++ selected_rows s.select adds.more) =
     bag_set (selected_rows s.select) accepted index rows (rows ++ adds.more) (selected_rows s.select adds.more) there (filter_map_append (selected_row s.select) rows adds.more) in
     record {
       more = adds.more;
       few = adds.few;
-      has = subst (λ (c : Collecting _). HasAccepted source c.members (with_rows accepted index adds.more)) (sym steps.changed) members;
+      has = subst (λ (c : Collecting _). HasAccepted source c.members (with_rows accepted index adds.more)) (sym changed) members;
       selected = adds.selected;
       step = record {
         grew = zip_self_set GrewTo same_grew accepted index rows (rows ++ adds.more) there (adds.more, refl);
         given = subst (λ g. SameBag (given_rows s.select (with_rows accepted index adds.more)) (given_rows s.select accepted ++ g)) (sym adds.selected) bag;
       };
     }
+
+pub gathers : {S M : Type 0} (source : Source S M) (s t : Collecting S) (index : ℕ) (result : Collected) (accepted : List RowList)
+    → Steps source s t index result → HasAccepted source s.members accepted → Gathers source s t index result accepted
+gathers source s t index result accepted steps has =
+    gathers_by source s t index result accepted steps.old steps.new steps.at steps.changed (λ rows h. member_adds source s.select steps.old steps.new result rows steps.step h) has
+
+pub gathers_held : {S M : Type 0} (source : Source S M) (s t : Collecting S) (index : ℕ) (result : Collected) (accepted : List RowList)
+    → StepsHeld source s t index result → HasAccepted source s.members accepted → Gathers source s t index result accepted
+gathers_held source s t index result accepted steps has =
+    gathers_by source s t index result accepted steps.old steps.new steps.at steps.changed (λ rows h. member_adds_held source s.select steps.old steps.new result rows steps.step h) has
 
 -- ---- how much is left
 
@@ -135,11 +169,34 @@ member_idle {S = S} source select old e =
     (λ (u : Reader S). (v : Reader S) × (old ≡ record old { reader = Some v }) × SameSource source u.wrapper.source v.wrapper.source × ReadsOn source select u v collected.Still)) (sym e)
     (refl, refl)
 
+pub member_accepts : {S M : Type 0} (source : Source S M) (select : Select) (old : Member S) (r q : Reader S) (result : Collected) → old.reader ≡ Some r
+    → q.wrapper.source ≡ r.wrapper.source → ReadsHeld source select r q result → AcceptsHeld source select old (record old { reader = Some q }) result
+member_accepts {S = S} source select old r q result e same reads =
+    subst (λ o. MatchOption o ((result ≡ collected.Still) × (record old { reader = Some q } ≡ old))
+    (λ (u : Reader S). (v : Reader S) × (record old { reader = Some q } ≡ record old { reader = Some v }) × (v.wrapper.source ≡ u.wrapper.source) × ReadsHeld source select u v result)) (sym e)
+    (q, refl, same, reads)
+
+pub member_unheld : {S M : Type 0} (source : Source S M) (select : Select) (old : Member S) → old.reader ≡ None → AcceptsHeld source select old old collected.Still
+member_unheld {S = S} source select old e =
+    subst (λ o. MatchOption o ((collected.Still ≡ collected.Still) × (old ≡ old))
+    (λ (u : Reader S). (v : Reader S) × (old ≡ record old { reader = Some v }) × (v.wrapper.source ≡ u.wrapper.source) × ReadsHeld source select u v collected.Still)) (sym e)
+    (refl, refl)
+
 -- ---- one member of a collector
 
 pub stepped : {S M : Type 0} (source : Source S M) (s : Collecting S) (index : ℕ) (old new : Member S) (result : Collected) → index < length s.members → old ≡ slice_index_or s.members index old
     → StepsMember source s.select old new result → Steps source s (record s { members = set s.members index new }) index result
 stepped source s index old new result inside is steps = record {
+  old = old;
+  new = new;
+  at = stands_at s.members index old inside is;
+  changed = refl;
+  step = steps;
+}
+
+pub stepped_held : {S M : Type 0} (source : Source S M) (s : Collecting S) (index : ℕ) (old new : Member S) (result : Collected) → index < length s.members → old ≡ slice_index_or s.members index old
+    → AcceptsHeld source s.select old new result → StepsHeld source s (record s { members = set s.members index new }) index result
+stepped_held source s index old new result inside is steps = record {
   old = old;
   new = new;
   at = stands_at s.members index old inside is;

@@ -1,5 +1,6 @@
 -- The steps of a reader.
-use Rattle.std.proofs.Common.{◌≡◌, ℕ, ◌+◌, ◌<◌, ◌≤◌, ◌⊎◌, inl, inr, true, false, List, [], ◌∷◌, ◌++◌, length, Option, Some, None, IfSome, refl, sym, ap, subst, ◌∙◌, arith, append-nil}
+use Rattle.std.proofs.Common.{◌≡◌, ◌≢◌, ℕ, ◌+◌, ◌<◌, ◌≤◌, ◌⊎◌, inl, inr, Bool, true, false, List, [], ◌∷◌, ◌++◌, length, Option, Some, None, IfSome, refl, sym, ap, subst, ◌∙◌, arith, append-nil}
+use Rattle.std.specs.Prelude.{option_to_list}
 use Rattle.answer_theory.proofs.Lists.{each_append}
 use Rattle.med_base.specs.declared.member.MemberFault.{MemberFault}
 use Rattle.med_base.specs.declared.member.MemberState.{MemberState}
@@ -7,7 +8,7 @@ use Rattle.med_base.specs.declared.member.MemberState.TheVariants as state
 use Rattle.med_base.specs.declared.outside.source.Source.{Ghosts as Source}
 use Rattle.tuple_core.specs.declared.columns.Column.{Column}
 use Rattle.tuple_core.specs.Values.{RowList, RowValues}
-use Rattle.csv_wrap.specs.Ahead.{FillColumns}
+use Rattle.csv_wrap.specs.Ahead.{FillColumns, HoldsNothing}
 use Rattle.csv_wrap.specs.Pulls.{AnswersOnePull, AsksSource, CountsWaits, LeavesSource, MovesBy}
 use Rattle.csv_wrap.specs.Sound.{IsSoundSoFar, IsSoundState}
 use Rattle.csv_wrap.specs.Wrapped.{AcceptedAs, HasGiven, IsLast, IsPulled, SameSource, SoundAs, Wrapped, fault_of, row_of}
@@ -18,12 +19,20 @@ use Rattle.csv_wrap.specs.declared.wrapper.Pulled.{Pulled}
 use Rattle.csv_wrap.specs.declared.wrapper.Pulled.TheVariants as pulled
 use Rattle.collect_core.specs.Reading.{HasBegun, IsReader, Reader, ReaderAccepted, end_to_come, most_rows, reader_left, some_kept}
 use Rattle.collect_core.specs.Selecting.{Select, selected_row}
-use Rattle.collect_core.specs.Steps.{Accepts, AcceptsNothing, Falls, Pulls, ReadsOn, fault_after, state_after, waited_after}
+use Rattle.collect_core.specs.Steps.{Accepts, AcceptsNothing, Falls, FindsNothing, Pulls, PullsOnceAtMost, ReadsHeld, ReadsOn, StandsStill, fault_after, state_after, waited_after}
 use Rattle.collect_core.specs.Turning.{PulledBy, PullsAs, TakesNext, collected_by}
 use Rattle.collect_core.specs.declared.reader.Collected.{Collected}
 use Rattle.collect_core.specs.declared.reader.Collected.TheVariants as collected
 use Rattle.collect_core.proofs.Lefts.{left_active, left_over, less_by_row, moved_less, reading_left, still_no_more}
 use Rattle.collect_core.proofs.Taking.{no_fault, reader_accepted, reads_all}
+
+-- what is left where what is held was accepted, and what that was
+pub record Took {S M : Type 0} (source : Source S M) (select : Select) (old new : Reader S) (result : Collected) : Type 0 where
+  pub reader : IsReader source new
+  pub reads : ReadsHeld source select old new result
+  pub columns : new.wrapper.ahead.columns ≡ old.wrapper.ahead.columns
+  pub same : new.wrapper.source ≡ old.wrapper.source
+  pub falls : Falls result (reader_left source old) (reader_left source new)
 
 -- what a step leaves, and what it was
 pub record Went {S M : Type 0} (source : Source S M) (select : Select) (old new : Reader S) (result : Collected) : Type 0 where
@@ -113,21 +122,21 @@ module _ {S M : Type 0} (source : Source S M) (old mid : Reader S) (row : RowVal
       ∙ ap (λ t. reading_left (old.accepted + 1) l k (end_to_come t)) takes.ended_is in
       subst (λ n. n < reader_left source old) (sym new) (subst (λ n. reading_left (old.accepted + 1) l k e < n) (sym (left_active source old active)) (less_by_row most_rows old.accepted l k e within))
 
-  pub went_row : (select : Select) (values : RowValues) → selected_row select row ≡ Some values → Went source select old accepted_one (collected.Row values)
-  went_row select values e = record {
+  pub took_row : (select : Select) (values : RowValues) → selected_row select row ≡ Some values → Took source select old accepted_one (collected.Row values)
+  took_row select values e = record {
     reader = accepts_reader;
     reads = (row, accepts_row, e);
     columns = takes.columns_is;
-    same = same_source source old.wrapper.source mid.wrapper.source takes.source_is;
+    same = takes.source_is;
     falls = accepts_less;
   }
 
-  pub went_unselected : (select : Select) → selected_row select row ≡ None → Went source select old accepted_one collected.Moved
-  went_unselected select e = record {
+  pub took_unselected : (select : Select) → selected_row select row ≡ None → Took source select old accepted_one collected.Moved
+  took_unselected select e = record {
     reader = accepts_reader;
     reads = inl (row, accepts_row, e);
     columns = takes.columns_is;
-    same = same_source source old.wrapper.source mid.wrapper.source takes.source_is;
+    same = takes.source_is;
     falls = accepts_less;
   }
 
@@ -161,20 +170,21 @@ module _ {S M : Type 0} (source : Source S M) (old mid : Reader S) (row : RowVal
     waited = waits_more;
   }
 
-  pub went_short : (select : Select) → Went source select old waiting_one collected.NoMemory
-  went_short select = record {
+  pub took_short : (select : Select) → Took source select old waiting_one collected.NoMemory
+  took_short select = record {
     reader = waits_reader;
     reads = (
       active,
       record {
         nothing = record { accepted = λ rows h. (filled_on old.wrapper.ahead.columns mid.wrapper.ahead.columns rows takes.columns_is h.0, takes.given rows h); counted = takes.accepted_is };
+        one_pull = inl takes.source_is;
         state_is = takes.state_is;
         fault_is = takes.fault_is;
         waited_is = takes.waited_is;
       },
     );
     columns = takes.columns_is;
-    same = same_source source old.wrapper.source mid.wrapper.source takes.source_is;
+    same = takes.source_is;
     falls = tt;
   }
 
@@ -201,11 +211,11 @@ module _ {S M : Type 0} (source : Source S M) (old mid : Reader S) (answer : Nex
   abbrev failed_at : MemberFault → Reader S
   failed_at why = record mid { state = state.Failed; fault = Some why }
 
-  pub went_fault : (select : Select) (why : MemberFault) → fault_of mid.wrapper ≡ Some why → SoundAs source mid.wrapper state.Failed (Some why)
-      → Went source select old (failed_at why) collected.Moved
-  went_fault select why reached sound = record {
+  pub took_fault : (select : Select) (why : MemberFault) → fault_of mid.wrapper ≡ Some why → SoundAs source mid.wrapper state.Failed (Some why)
+      → Took source select old (failed_at why) collected.Moved
+  took_fault select why reached sound = record {
     reader = reads_all source (failed_at why) is.rows takes.waits (filled_none is.rows is.given) (given_none is.rows is.given) all_counted takes.so_far takes.told sound few_none waited_none tt;
-    reads = inr (inl (
+    reads = inr (
       why,
       record {
         was = active;
@@ -216,30 +226,96 @@ module _ {S M : Type 0} (source : Source S M) (old mid : Reader S) (answer : Nex
         fault_is = refl;
         waited_is = takes.waited_is;
       },
-    ));
+    );
     columns = takes.columns_is;
-    same = same_source source old.wrapper.source mid.wrapper.source takes.source_is;
+    same = takes.source_is;
     falls = subst (λ n. 0 < n) (sym (left_active source old active)) (omega arith);
   }
 
+  reader_none : IsReader source mid
+  reader_none = reads_all source mid is.rows takes.waits (filled_none is.rows is.given) (given_none is.rows is.given) all_counted takes.so_far takes.told
+      (sound_in source mid.wrapper mid.state mid.fault (takes.state_is ∙ active) (takes.fault_is ∙ no_fault source old is active) takes.so_far) few_none waited_none (subst HasBegun (sym (takes.state_is ∙ active)) tt)
+
+  accepts_nothing : AcceptsNothing source old mid
+  accepts_nothing = record { accepted = λ rows h. reader_accepted source mid rows takes.waits (filled_none rows h) (given_none rows h); counted = takes.accepted_is }
+
   -- no memory was there
-  pub went_nowhere : (select : Select) → Went source select old mid collected.NoMemory
-  went_nowhere select = record {
-    reader = reads_all source mid is.rows takes.waits (filled_none is.rows is.given) (given_none is.rows is.given) all_counted takes.so_far takes.told
-        (sound_in source mid.wrapper mid.state mid.fault (takes.state_is ∙ active) (takes.fault_is ∙ no_fault source old is active) takes.so_far) few_none waited_none (subst HasBegun (sym (takes.state_is ∙ active)) tt);
+  pub took_nowhere : (select : Select) → Took source select old mid collected.NoMemory
+  took_nowhere select = record {
+    reader = reader_none;
     reads = (
       active,
       record {
-        nothing = record { accepted = λ rows h. reader_accepted source mid rows takes.waits (filled_none rows h) (given_none rows h); counted = takes.accepted_is };
+        nothing = accepts_nothing;
+        one_pull = inl takes.source_is;
         state_is = takes.state_is;
         fault_is = takes.fault_is;
         waited_is = takes.waited_is;
       },
     );
     columns = takes.columns_is;
-    same = same_source source old.wrapper.source mid.wrapper.source takes.source_is;
+    same = takes.source_is;
     falls = tt;
   }
+
+  left_none : reader_left source mid ≡ reader_left source old
+  left_none = left_active source mid (takes.state_is ∙ active)
+      ∙ ap (λ a. reading_left a (source.left mid.wrapper.source) (some_kept mid.wrapper.kept) (end_to_come mid.wrapper.ahead.framed.ended)) takes.accepted_is
+      ∙ ap (λ s. reading_left old.accepted (source.left s) (some_kept mid.wrapper.kept) (end_to_come mid.wrapper.ahead.framed.ended)) takes.source_is
+      ∙ ap (λ bs. reading_left old.accepted (source.left old.wrapper.source) (some_kept bs) (end_to_come mid.wrapper.ahead.framed.ended)) takes.kept_is
+      ∙ ap (λ t. reading_left old.accepted (source.left old.wrapper.source) (some_kept old.wrapper.kept) (end_to_come t)) takes.ended_is
+      ∙ sym (left_active source old active)
+
+  -- nothing was held
+  pub took_nothing : (select : Select) → old.waiting ≡ None → HoldsNothing mid.wrapper.ahead → fault_of mid.wrapper ≡ None → Took source select old mid collected.Still
+  took_nothing select unheld holds calm = record {
+    reader = reader_none;
+    reads = inr (record {
+      was = active;
+      none = unheld;
+      nothing = accepts_nothing;
+      waits = takes.waits;
+      holds = (holds, calm);
+      source_is = takes.source_is;
+      kept_is = takes.kept_is;
+      ended_is = takes.ended_is;
+      state_is = takes.state_is;
+      fault_is = takes.fault_is;
+      waited_is = takes.waited_is;
+    });
+    columns = takes.columns_is;
+    same = takes.source_is;
+    falls = omega (arith, left_none);
+  }
+
+pub took_none : {S M : Type 0} (source : Source S M) (old mid : Reader S) → IsReader source old → old.state ≡ state.Active → TakesNext source old mid next.Nothing → (select : Select)
+    → Took source select old mid collected.Still
+took_none source old mid is active takes select = took_nothing source old mid next.Nothing refl is active takes select takes.answers.0 takes.answers.1 takes.answers.2
+
+-- ---- a step that accepted what is held
+
+found : {S M : Type 0} (source : Source S M) (old mid : Reader S) → ((old.state ≢ state.Active) × (mid ≡ old)) ⊎ FindsNothing source old mid → mid.state ≡ state.Active → FindsNothing source old mid
+found source old mid (inl over) active = absurd (over.0 (sym (ap (λ r. r.state) over.1) ∙ active))
+found source old mid (inr finds) active = finds
+
+reads_on : {S M : Type 0} (source : Source S M) (select : Select) (old new : Reader S) (result : Collected) → (result ≡ collected.Still → new.state ≢ state.Active)
+    → ReadsHeld source select old new result → ReadsOn source select old new result
+reads_on source select old new (collected.Row values) over reads = reads
+reads_on source select old new collected.Moved over (inl accepts) = inl accepts
+reads_on source select old new collected.Moved over (inr reaches) = inr (inl reaches)
+reads_on source select old new collected.Still over (inl was) = inl was
+reads_on source select old new collected.Still over (inr finds) = absurd (over refl (finds.state_is ∙ finds.was))
+reads_on source select old new collected.NoMemory over reads = reads
+
+pub went_held : {S M : Type 0} (source : Source S M) (select : Select) (old new : Reader S) (result : Collected) → (result ≡ collected.Still → new.state ≢ state.Active)
+    → Took source select old new result → Went source select old new result
+went_held source select old new result over took = record {
+  reader = took.reader;
+  reads = reads_on source select old new result over took.reads;
+  columns = took.columns;
+  same = same_source source old.wrapper.source new.wrapper.source took.same;
+  falls = took.falls;
+}
 
 -- ---- a pull
 
@@ -338,49 +414,67 @@ module _ {S M : Type 0} (source : Source S M) (mid new : Reader S) (active : mid
   pulled_falls (pulled.Failed why) by = over_less (left_over source new state.Failed by.state_is (λ n. refl))
   pulled_falls pulled.NoMemory by = tt
 
-module _ {S M : Type 0} (source : Source S M) (select : Select) (old mid new : Reader S) (is : IsReader source old) (active : old.state ≡ state.Active) (takes : TakesNext source old mid next.Nothing) where
-  left_mid : reader_left source mid ≡ reader_left source old
-  left_mid = left_active source mid (takes.state_is ∙ active)
-      ∙ ap (λ a. reading_left a (source.left mid.wrapper.source) (some_kept mid.wrapper.kept) (end_to_come mid.wrapper.ahead.framed.ended)) takes.accepted_is
-      ∙ ap (λ s. reading_left old.accepted (source.left s) (some_kept mid.wrapper.kept) (end_to_come mid.wrapper.ahead.framed.ended)) takes.source_is
-      ∙ ap (λ bs. reading_left old.accepted (source.left old.wrapper.source) (some_kept bs) (end_to_come mid.wrapper.ahead.framed.ended)) takes.kept_is
-      ∙ ap (λ t. reading_left old.accepted (source.left old.wrapper.source) (some_kept old.wrapper.kept) (end_to_come t)) takes.ended_is
-      ∙ sym (left_active source old active)
+less_still : (result : Collected) (old mid new : ℕ) → mid ≤ old → Falls result mid new → Falls result old new
+less_still (collected.Row values) old mid new h falls = omega arith
+less_still collected.Moved old mid new h falls = omega arith
+less_still collected.Still old mid new h falls = omega arith
+less_still collected.NoMemory old mid new h falls = tt
+
+-- a wrapper without a fault asks its source, or leaves it
+asks_or_leaves : {S : Type 0} (w : Wrapped S) (ended : Bool) (kept : List ℕ) → w.ahead.framed.ended ≡ ended → w.kept ≡ kept → fault_of w ≡ None → AsksSource w ⊎ LeavesSource w
+asks_or_leaves w true kept is same calm = inr (inr (inl is))
+asks_or_leaves w false [] is same calm = inl (calm, is, same)
+asks_or_leaves w false (byte ∷ bytes) is same calm = inr (inr (inr (subst (λ bs. 0 < length bs) (sym same) (omega arith))))
+
+once_at_most : {S M : Type 0} (source : Source S M) (w : Wrapped S) (new : S) → AsksSource w ⊎ LeavesSource w → (AsksSource w → AnswersOnePull source w.source new pulled.NoMemory)
+    → (LeavesSource w → new ≡ w.source) → PullsOnceAtMost source w.source new
+once_at_most source w new (inl asks) one_pull no_pull = inr (one_pull asks)
+once_at_most source w new (inr leaves) one_pull no_pull = inl (no_pull leaves)
+
+module _ {S M : Type 0} (source : Source S M) (select : Select) (old mid new : Reader S) (took : Took source select old mid collected.Still) (active : mid.state ≡ state.Active) where
+  pub finds : FindsNothing source old mid
+  finds = found source old mid took.reads active
+
+  given_mid : (rows : RowList) → ReaderAccepted source old rows → HasGiven source mid.wrapper rows
+  given_mid rows h = subst (λ rs. HasGiven source mid.wrapper rs) (append-nil rows) (subst (λ w. HasGiven source mid.wrapper (rows ++ option_to_list w)) finds.waits (finds.nothing.accepted rows h).1)
+
+  all_mid : mid.wrapper.accepted ≡ mid.accepted
+  all_mid = took.reader.counted ∙ subst (λ w. mid.accepted + length (option_to_list w) ≡ mid.accepted) (sym finds.waits) (omega arith)
 
   module _ (answer : Pulled) (by : PulledBy source mid new answer) where
-    given_pulled : (rows : RowList) → ReaderAccepted source old rows → HasGiven source new.wrapper rows
-    given_pulled rows h = by.given rows (given_none source old mid next.Nothing refl is active takes rows h)
-
-    filled_pulled : (rows : RowList) → ReaderAccepted source old rows → FillColumns new.wrapper.ahead.columns rows
-    filled_pulled rows h = filled_on old.wrapper.ahead.columns new.wrapper.ahead.columns rows (by.columns_is ∙ takes.columns_is) h.0
+    filled_pulled : (rows : RowList) → FillColumns mid.wrapper.ahead.columns rows → FillColumns new.wrapper.ahead.columns rows
+    filled_pulled rows h = filled_on mid.wrapper.ahead.columns new.wrapper.ahead.columns rows by.columns_is h
 
     accepts_none : AcceptsNothing source old new
     accepts_none = record {
-      accepted = λ rows h. reader_accepted source new rows by.waits (filled_pulled rows h) (given_pulled rows h);
-      counted = by.accepted_is ∙ takes.accepted_is;
+      accepted = λ rows h. reader_accepted source new rows by.waits (filled_pulled rows (finds.nothing.accepted rows h).0) (by.given rows (given_mid rows h));
+      counted = by.accepted_is ∙ finds.nothing.counted;
     }
 
+    given_pulled : HasGiven source new.wrapper took.reader.rows
+    given_pulled = by.given took.reader.rows (subst (λ rs. HasGiven source mid.wrapper rs) (append-nil took.reader.rows)
+        (subst (λ w. HasGiven source mid.wrapper (took.reader.rows ++ option_to_list w)) finds.waits took.reader.given.1))
+
     all_pulled : new.wrapper.accepted ≡ new.accepted
-    all_pulled = by.counted ∙ all_counted source old mid next.Nothing refl is active takes ∙ sym by.accepted_is
+    all_pulled = by.counted ∙ all_mid ∙ sym by.accepted_is
 
     reader_pulled : IsReader source new
-    reader_pulled = reads_all source new is.rows by.waits (filled_pulled is.rows is.given) (given_pulled is.rows is.given) all_pulled by.so_far by.told
+    reader_pulled = reads_all source new took.reader.rows by.waits (filled_pulled took.reader.rows took.reader.given.0) given_pulled all_pulled by.so_far by.told
         (sound_in_state source new.wrapper new.state new.fault answer by.state_is by.fault_is (sound_after source mid.wrapper new.wrapper answer by.answers by.so_far))
-        (omega (arith, by.counted, few_none source old mid next.Nothing refl is active takes))
-        (subst (λ n. n ≤ source.waits new.wrapper.source) (sym by.waited_is) (waits_after source mid.wrapper.source new.wrapper.source answer mid.waited by.waits_counted
-        (waited_none source old mid next.Nothing refl is active takes)))
+        (omega (arith, by.counted, took.reader.few))
+        (subst (λ n. n ≤ source.waits new.wrapper.source) (sym by.waited_is) (waits_after source mid.wrapper.source new.wrapper.source answer mid.waited by.waits_counted took.reader.waited))
         (subst HasBegun (sym by.state_is) (begun_after answer))
 
     pulls : Pulls source old new answer
     pulls = record {
-      was = active;
+      was = finds.was;
       nothing = accepts_none;
       before = mid.wrapper;
-      given = given_none source old mid next.Nothing refl is active takes;
-      source_is = takes.source_is;
-      kept_is = takes.kept_is;
-      ended_is = takes.ended_is;
-      holds = takes.answers;
+      given = given_mid;
+      source_is = finds.source_is;
+      kept_is = finds.kept_is;
+      ended_is = finds.ended_is;
+      holds = finds.holds;
       one_pull = by.one_pull;
       no_pull = by.no_pull;
       waits = by.waits_counted;
@@ -388,36 +482,38 @@ module _ {S M : Type 0} (source : Source S M) (select : Select) (old mid new : R
       moved = by.moved;
       state_is = by.state_is;
       fault_is = by.fault_is;
-      waited_is = by.waited_is ∙ ap (waited_after answer) takes.waited_is;
+      waited_is = by.waited_is ∙ ap (waited_after answer) finds.waited_is;
     }
 
     same_pulled : SameSource source old.wrapper.source new.wrapper.source
-    same_pulled = subst (λ s. SameSource source s new.wrapper.source) takes.source_is by.source_is
+    same_pulled = subst (λ s. SameSource source s new.wrapper.source) took.same by.source_is
 
     falls_pulled : Falls (collected_by answer) (reader_left source old) (reader_left source new)
-    falls_pulled = subst (λ n. Falls (collected_by answer) n (reader_left source new)) left_mid (pulled_falls source mid new (takes.state_is ∙ active) answer by)
+    falls_pulled = less_still (collected_by answer) (reader_left source old) (reader_left source mid) (reader_left source new) took.falls (pulled_falls source mid new active answer by)
+
+  short_of_memory : PulledBy source mid new pulled.NoMemory → StandsStill source old new
+  short_of_memory by = record {
+    nothing = accepts_none pulled.NoMemory by;
+    one_pull = subst (λ s. PullsOnceAtMost source s new.wrapper.source) finds.source_is (once_at_most source mid.wrapper new.wrapper.source
+        (asks_or_leaves mid.wrapper mid.wrapper.ahead.framed.ended mid.wrapper.kept refl refl finds.holds.1) by.one_pull by.no_pull);
+    state_is = by.state_is ∙ sym finds.was;
+    fault_is = by.fault_is ∙ sym (no_fault source mid took.reader active) ∙ finds.fault_is;
+    waited_is = by.waited_is ∙ finds.waited_is;
+  }
 
   reads_pulled : (answer : Pulled) → PulledBy source mid new answer → ReadsOn source select old new (collected_by answer)
   reads_pulled pulled.Moved by = inr (inr (pulled.Moved, pulls pulled.Moved by, tt))
   reads_pulled pulled.NotYet by = inr (pulls pulled.NotYet by)
   reads_pulled pulled.Ended by = inr (inr (pulled.Ended, pulls pulled.Ended by, tt))
   reads_pulled (pulled.Failed why) by = inr (inr (pulled.Failed why, pulls (pulled.Failed why) by, tt))
-  reads_pulled pulled.NoMemory by = (
-    active,
-    record {
-      nothing = accepts_none pulled.NoMemory by;
-      state_is = by.state_is ∙ sym active;
-      fault_is = by.fault_is ∙ sym (no_fault source old is active);
-      waited_is = by.waited_is ∙ takes.waited_is;
-    },
-  )
+  reads_pulled pulled.NoMemory by = (finds.was, short_of_memory by)
 
   pub went_pull : (result : Collected) → PullsAs source mid new result → Went source select old new result
   went_pull result by =
       subst (λ r. Went source select old new r) (sym by.2) (record {
         reader = reader_pulled by.0 by.1;
         reads = reads_pulled by.0 by.1;
-        columns = by.1.columns_is ∙ takes.columns_is;
+        columns = by.1.columns_is ∙ took.columns;
         same = same_pulled by.0 by.1;
         falls = falls_pulled by.0 by.1;
       })

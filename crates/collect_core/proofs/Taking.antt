@@ -108,12 +108,12 @@ takes_waiting source old row is e = record {
   answers = (is.few, λ none held. absurd (let clash : Some row ≡ None = sym e ∙ none in cc), subst (λ w. IfSome w (λ r. length r ≡ length old.wrapper.ahead.columns)) e is.wide);
 }
 
-takes_as : {S M : Type 0} (source : Source S M) (old : Reader S) (w : Wrapped S) (answer : NextRow) → IsNext source old.wrapper w answer → FillsColumns old.wrapper.ahead.columns answer
+takes_as : {S M : Type 0} (source : Source S M) (old : Reader S) (w : Wrapped S) (answer : NextRow) → old.waiting ≡ None → IsNext source old.wrapper w answer → FillsColumns old.wrapper.ahead.columns answer
     → TakesAs source old (record old { wrapper = w; waiting = None }) answer
-takes_as source old w (next.Row row) is wide = (is.0, λ none. is.1, wide)
-takes_as source old w next.Nothing is wide = is
-takes_as source old w (next.Failed why) is wide = (is.reached, is.sound)
-takes_as source old w next.NoMemory is wide = tt
+takes_as source old w (next.Row row) none is wide = (is.0, λ none. is.1, wide)
+takes_as source old w next.Nothing none is wide = (none, is.0, is.1)
+takes_as source old w (next.Failed why) none is wide = (is.reached, is.sound)
+takes_as source old w next.NoMemory none is wide = tt
 
 pub takes_held : {S M : Type 0} (source : Source S M) (old : Reader S) (w : Wrapped S) (answer : NextRow) → IsReader source old → old.waiting ≡ None
     → w.source ≡ old.wrapper.source → w.ahead.columns ≡ old.wrapper.ahead.columns → ((given : RowList) → HasGiven source old.wrapper given → HasGiven source w (given ++ row_of answer))
@@ -136,5 +136,5 @@ takes_held source old w answer is none from named gave answers wide counted kept
       counted = counted ∙ ap (λ n. n + length (row_of answer)) all;
       so_far = sound;
       told = told;
-      answers = takes_as source old w answer answers wide;
+      answers = takes_as source old w answer none answers wide;
     }

@@ -141,12 +141,40 @@ ReachesSome source old new = (why : MemberFault) × Reaches source old new why
 abbrev pub PullsSome : {S M : Type 0} → Source S M → Reader S → Reader S → Type 0
 PullsSome source old new = (answer : Pulled) × Pulls source old new answer × HasMoved answer
 
+-- The source was pulled once at most. A pull for whose bytes there was no memory gave some.
+abbrev pub PullsOnceAtMost : {S M : Type 0} → Source S M → S → S → Type 0
+PullsOnceAtMost source old new = (new ≡ old) ⊎ AnswersOnePull source old new pulled.NoMemory
+
 -- no row was accepted, and it stands as before
 pub record StandsStill {S M : Type 0} (source : Source S M) (old new : Reader S) : Type 0 where
   pub nothing : AcceptsNothing source old new
+  pub one_pull : PullsOnceAtMost source old.wrapper.source new.wrapper.source
   pub state_is : new.state ≡ old.state
   pub fault_is : new.fault ≡ old.fault
   pub waited_is : new.waited ≡ old.waited
+
+-- Nothing was held: no row waited, and the wrapper, once what it held was read, of which there was no row, holds no row, no fault and no whole frame. Nothing
+-- else has changed.
+pub record FindsNothing {S M : Type 0} (source : Source S M) (old new : Reader S) : Type 0 where
+  pub was : old.state ≡ state.Active
+  pub none : old.waiting ≡ None
+  pub nothing : AcceptsNothing source old new
+  pub waits : new.waiting ≡ None
+  pub holds : HoldsNothing new.wrapper.ahead × (fault_of new.wrapper ≡ None)
+  pub source_is : new.wrapper.source ≡ old.wrapper.source
+  pub kept_is : new.wrapper.kept ≡ old.wrapper.kept
+  pub ended_is : new.wrapper.ahead.framed.ended ≡ old.wrapper.ahead.framed.ended
+  pub state_is : new.state ≡ old.state
+  pub fault_is : new.fault ≡ old.fault
+  pub waited_is : new.waited ≡ old.waited
+
+-- What was accepted of what is held: a row that the atom selects; or it moved by a row that the atom doesn't select, or by a fault that was reached; it stood
+-- still where it is over, or where nothing was held.
+abbrev pub ReadsHeld : {S M : Type 0} → Source S M → Select → Reader S → Reader S → Collected → Type 0
+ReadsHeld source select old new (collected.Row row) = AcceptsAs source select old new (Some row)
+ReadsHeld source select old new collected.Moved = AcceptsAs source select old new None ⊎ ReachesSome source old new
+ReadsHeld source select old new collected.Still = ((old.state ≢ state.Active) × (new ≡ old)) ⊎ FindsNothing source old new
+ReadsHeld source select old new collected.NoMemory = (old.state ≡ state.Active) × StandsStill source old new
 
 -- What a step of the reading was: a row, where one was held that the atom selects; else it moved by a row that the atom doesn't select, by a fault that was
 -- reached, or by a pull; it stood still where it is over, or where nothing is there yet.
@@ -170,6 +198,11 @@ abbrev pub StepsMember : {S M : Type 0} → Source S M → Select → Member S �
 StepsMember {S} source select old new result = MatchOption old.reader ((result ≡ collected.Still) × (new ≡ old))
     (λ r. (q : Reader S) × (new ≡ record old { reader = Some q }) × SameSource source r.wrapper.source q.wrapper.source × ReadsOn source select r q result)
 
+-- what a member accepted of what it holds, without a pull: its source is as it was
+abbrev pub AcceptsHeld : {S M : Type 0} → Source S M → Select → Member S → Member S → Collected → Type 0
+AcceptsHeld {S} source select old new result = MatchOption old.reader ((result ≡ collected.Still) × (new ≡ old))
+    (λ r. (q : Reader S) × (new ≡ record old { reader = Some q }) × (q.wrapper.source ≡ r.wrapper.source) × ReadsHeld source select r q result)
+
 -- one member made a step, and nothing else has changed
 pub record Steps {S M : Type 0} (source : Source S M) (s t : Collecting S) (index : ℕ) (result : Collected) : Type 0 where
   pub old : Member S
@@ -177,3 +210,11 @@ pub record Steps {S M : Type 0} (source : Source S M) (s t : Collecting S) (inde
   pub at : slice_get s.members index ≡ Some old
   pub changed : t ≡ record s { members = set s.members index new }
   pub step : StepsMember source s.select old new result
+
+-- one member accepted what it holds, and nothing else has changed
+pub record StepsHeld {S M : Type 0} (source : Source S M) (s t : Collecting S) (index : ℕ) (result : Collected) : Type 0 where
+  pub old : Member S
+  pub new : Member S
+  pub at : slice_get s.members index ≡ Some old
+  pub changed : t ≡ record s { members = set s.members index new }
+  pub step : AcceptsHeld source s.select old new result

@@ -30,7 +30,7 @@ pub record IsFresh {S M : Type 0} (source : Source S M) (columns : List Column) 
 abbrev pub TakesAs : {S M : Type 0} → Source S M → Reader S → Reader S → NextRow → Type 0
 TakesAs source old new (next.Row row) =
     (new.wrapper.accepted ≤ most_rows) × (old.waiting ≡ None → HoldsNothing old.wrapper.ahead → ⊥) × (length row ≡ length old.wrapper.ahead.columns)
-TakesAs source old new next.Nothing = HoldsNothing new.wrapper.ahead × (fault_of new.wrapper ≡ None)
+TakesAs source old new next.Nothing = (old.waiting ≡ None) × HoldsNothing new.wrapper.ahead × (fault_of new.wrapper ≡ None)
 TakesAs source old new (next.Failed why) = (fault_of new.wrapper ≡ Some why) × SoundAs source new.wrapper state.Failed (Some why)
 TakesAs source old new next.NoMemory = ⊤
 

@@ -6,7 +6,7 @@ ghost use Rattle.tuple_core.specs.Values.{RowList};
 ghost use Rattle.collect_core.specs.Collecting.{work_left};
 ghost use Rattle.collect_core.specs.Giving.{FailsOpening, Gives, IsAt, IsIdleAt};
 ghost use Rattle.collect_core.specs.Members.{AreSound, AreTold, AreWithin, HasAccepted, are_settled, end_of, fresh_group, fresh_members, is_named, is_settled, is_starved, member_now, starved_group};
-ghost use Rattle.collect_core.specs.Steps.{Falls, Gathers, Steps};
+ghost use Rattle.collect_core.specs.Steps.{Falls, Gathers, Steps, StepsHeld};
 
 use crate::member::{Member, MemberNow};
 use crate::reader::Collected;
@@ -124,6 +124,19 @@ impl<S: Source> AtomCollector<S> {
         ensures sound { AreSound S.Source self.new.columns self.new.members }
     {
         self.members[index].fail_opening();
+    }
+
+    /// Accepts the next row that is held of a member, whose source isn't pulled. It stands still where the member isn't
+    /// active, or nothing is held: no row, no fault and no whole frame.
+    pub fn accept(&mut self, alloc: Global, index: usize) -> Collected
+        requires { index < length self.old.members }
+        ensures steps { StepsHeld S.Source self.old self.new index result }
+        ensures gathers { (accepted : List RowList) → HasAccepted S.Source self.old.members accepted → Gathers S.Source self.old self.new index result accepted }
+        ensures falls { Falls result (work_left S.Source self.old) (work_left S.Source self.new) }
+        ensures count { length self.new.members ≡ length self.old.members }
+        ensures sound { AreSound S.Source self.new.columns self.new.members }
+    {
+        self.members[index].accept(alloc, &self.columns, &self.selection)
     }
 
     /// One step of a member: it accepts the next row that is held; where none is, its source is pulled once.

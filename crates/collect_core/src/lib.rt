@@ -4,8 +4,8 @@
 //! 1. [`Selection::new`] is made of the atom's pattern and of the comparisons that are placed at the atom.
 //! 2. [`AtomCollector::new`] lists the atom's members by group and mirror; `find` gives a member's index.
 //! 3. [`AtomCollector::give`] gives a fresh source to a member; `opening_failed` says that there is none.
-//! 4. [`AtomCollector::step`] accepts the next row that is held of a member, or pulls its source once; what came of it is
-//!    [`Collected`].
+//! 4. [`AtomCollector::accept`] accepts the next row that is held of a member, and [`AtomCollector::step`] does so or, where
+//!    nothing is held, pulls its source once; what came of it is [`Collected`].
 //! 5. `member`, `settled`, `finished` and `starved` tell how members and groups stand; `into_ends` gives the members' ends.
 //!
 //! Definitions: `specs/Selecting.antt` says which rows an atom selects; `specs/Reading.antt`, `Members` and `Collecting` what

@@ -3,7 +3,7 @@
 ghost use Rattle.std.specs.Prelude.{◌≡◌, ◌^◌, ◌≤◌, ◌&&◌, ◌||◌, not, [], length, IfOk, IfSome, OnErr, None, false, true};
 ghost use Rattle.collect_core.specs.Giving.{GivesMember};
 ghost use Rattle.collect_core.specs.Members.{IsMember, end_of, fresh_member, group_of, is_ended, is_failed, is_in, is_named, member_left, member_now, unopened_now};
-ghost use Rattle.collect_core.specs.Steps.{Falls, StepsMember};
+ghost use Rattle.collect_core.specs.Steps.{AcceptsHeld, Falls, StepsMember};
 
 use crate::reader::{Collected, Reader};
 use crate::selection::Selection;
@@ -126,6 +126,25 @@ impl<S: Source> Member<S> {
         ensures { self.new ≡ record self.old { opening_failed = true } }
     {
         self.opening_failed = true;
+    }
+
+    /// Accepts the next row that is held of its source, which isn't pulled.
+    pub(crate) fn accept(
+        &mut self,
+        alloc: Global,
+        columns: &Columns,
+        selection: &Selection,
+    ) -> Collected
+        requires member { IsMember S.Source columns.now self.old }
+        requires width { length columns.now ≡ length selection.now.terms }
+        ensures member { IsMember S.Source columns.now self.new }
+        ensures steps { AcceptsHeld S.Source selection.now self.old self.new result }
+        ensures falls { Falls result (member_left S.Source self.old) (member_left S.Source self.new) }
+    {
+        match &mut self.reader {
+            Some(reader) => reader.accept(alloc, selection),
+            None => Collected::Still,
+        }
     }
 
     /// One step of the reading of its source.

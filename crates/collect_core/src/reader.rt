@@ -6,7 +6,7 @@ ghost use Rattle.csv_wrap.specs.Wrapped.{MayPull, SameSource, fault_of};
 ghost use Rattle.csv_wrap.specs.Ahead.{HoldsNothing};
 ghost use Rattle.collect_core.specs.Members.{member_now_with};
 ghost use Rattle.collect_core.specs.Reading.{IsReader, reader_left};
-ghost use Rattle.collect_core.specs.Steps.{Falls, ReadsOn};
+ghost use Rattle.collect_core.specs.Steps.{Falls, ReadsHeld, ReadsOn};
 ghost use Rattle.collect_core.specs.Turning.{IsFresh, PullsAs, TakesNext};
 
 use crate::member::MemberNow;
@@ -73,14 +73,14 @@ impl<S: Source> Reader<S> {
         })
     }
 
-    /// Accepts the next row that is held; where none is, pulls the source once.
-    pub(crate) fn step(&mut self, alloc: Global, selection: &Selection) -> Collected
+    /// Accepts the next row that is held. The source isn't pulled.
+    pub(crate) fn accept(&mut self, alloc: Global, selection: &Selection) -> Collected
         requires reader { IsReader S.Source self.old }
         requires width { length self.old.wrapper.ahead.columns ≡ length selection.now.terms }
         ensures reader { IsReader S.Source self.new }
-        ensures reads { ReadsOn S.Source selection.now self.old self.new result }
+        ensures reads { ReadsHeld S.Source selection.now self.old self.new result }
         ensures columns { self.new.wrapper.ahead.columns ≡ self.old.wrapper.ahead.columns }
-        ensures source { SameSource S.Source self.old.wrapper.source self.new.wrapper.source }
+        ensures source { self.new.wrapper.source ≡ self.old.wrapper.source }
         ensures falls { Falls result (reader_left S.Source self.old) (reader_left S.Source self.new) }
     {
         if self.state != MemberState::Active {
@@ -101,13 +101,29 @@ impl<S: Source> Reader<S> {
                     Collected::NoMemory
                 }
             },
-            NextRow::Nothing => self.pull(alloc),
+            NextRow::Nothing => Collected::Still,
             NextRow::Failed(fault) => {
                 self.state = MemberState::Failed;
                 self.fault = Some(fault);
                 Collected::Moved
             }
             NextRow::NoMemory => Collected::NoMemory,
+        }
+    }
+
+    /// Accepts the next row that is held; where none is, pulls the source once.
+    pub(crate) fn step(&mut self, alloc: Global, selection: &Selection) -> Collected
+        requires reader { IsReader S.Source self.old }
+        requires width { length self.old.wrapper.ahead.columns ≡ length selection.now.terms }
+        ensures reader { IsReader S.Source self.new }
+        ensures reads { ReadsOn S.Source selection.now self.old self.new result }
+        ensures columns { self.new.wrapper.ahead.columns ≡ self.old.wrapper.ahead.columns }
+        ensures source { SameSource S.Source self.old.wrapper.source self.new.wrapper.source }
+        ensures falls { Falls result (reader_left S.Source self.old) (reader_left S.Source self.new) }
+    {
+        match self.accept(alloc, selection) {
+            Collected::Still if self.state == MemberState::Active => self.pull(alloc),
+            collected => collected,
         }
     }
 

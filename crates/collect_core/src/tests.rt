@@ -34,6 +34,20 @@ fn selection(alloc: Global) -> Result<Selection, Fail>
     Ok(Selection::new(Pattern::new(alloc, terms)?, filter))
 }
 
+// r(x, y, z, w), with no comparisons.
+fn plain_selection(alloc: Global) -> Result<Selection, Fail>
+    ensures { IfOk result (λ s. length s.terms ≡ 4) }
+{
+    let terms = vec![in alloc;
+        Term::Variable(0),
+        Term::Variable(1),
+        Term::Variable(2),
+        Term::Variable(3),
+    ]?;
+    let filter = Filter::new(Vars::new(vec![in alloc; 0, 1, 2, 3]?), Vec::new(alloc));
+    Ok(Selection::new(Pattern::new(alloc, terms)?, filter))
+}
+
 fn column(alloc: Global, name: &str) -> Result<Column, Fail> {
     Ok(Column {
         name: Text::from_str(alloc, name)?,
@@ -60,15 +74,11 @@ fn group(alloc: Global, location: &str) -> Result<Words, Fail>
 }
 
 // The collector of atom 1, whose two groups have a mirror each.
-fn collector(alloc: Global) -> Result<AtomCollector<MemSource>, Fail> {
+fn collector(alloc: Global, selection: Selection) -> Result<AtomCollector<MemSource>, Fail>
+    requires { length selection.terms ≡ 4 }
+{
     let groups = vec![in alloc; group(alloc, "first")?, group(alloc, "second")?]?;
-    let collector = AtomCollector::new(
-        alloc,
-        1,
-        columns(alloc)?,
-        selection(alloc)?,
-        groups.as_slice(),
-    )?;
+    let collector = AtomCollector::new(alloc, 1, columns(alloc)?, selection, groups.as_slice())?;
     Ok(collector)
 }
 
@@ -120,13 +130,18 @@ fn open(
     }
 }
 
-// Steps of both members in turn, and the rows that they give.
+// Steps of both members in turn, between them what they hold, and the rows that they give.
 fn run(alloc: Global, collector: &mut AtomCollector<MemSource>) -> Result<Vec<Row>, Fail> {
     let mut rows = Vec::new(alloc);
     for turn in 0..ROUNDS {
         let index = turn % 2;
         if index < collector.len() {
-            match collector.step(alloc, index) {
+            let collected = if turn % 4 < 2 {
+                collector.step(alloc, index)
+            } else {
+                collector.accept(alloc, index)
+            };
+            match collected {
                 Collected::Row(row) => rows.push(row)?,
                 Collected::Moved | Collected::Still => {}
                 Collected::NoMemory => return Err(Fail::from("out of memory")),
@@ -166,7 +181,7 @@ fn selects_rows_of_two_groups_as_their_bytes_come(rt: HostRuntime) -> Result<(),
             site(alloc, "second", second, slow(alloc, size)?)?,
         ]?;
         let mut opener = MemOpener::new(alloc, sites, Vec::new(alloc));
-        let mut collector = collector(alloc)?;
+        let mut collector = collector(alloc, selection(alloc)?)?;
         open(alloc, &mut collector, &mut opener, 0)?;
         open(alloc, &mut collector, &mut opener, 1)?;
         assert!(rt; !collector.settled(1) && !collector.finished());
@@ -202,7 +217,7 @@ fn ends(
         Vec::new(alloc)
     };
     let mut opener = MemOpener::new(alloc, sites, failing);
-    let mut collector = collector(alloc)?;
+    let mut collector = collector(alloc, selection(alloc)?)?;
     open(alloc, &mut collector, &mut opener, 0)?;
     let _rows = run(alloc, &mut collector)?;
     let starved = collector.starved() == Some(GroupName { atom: 1, group: 1 });
@@ -237,13 +252,71 @@ fn members_end_with_their_causes(rt: HostRuntime) -> Result<(), Fail> {
     Ok(())
 }
 
+// Whether these values of four variables were given.
+fn gives(collected: Collected, wanted: [i64; 4]) -> bool {
+    match collected {
+        Collected::Row(row) => match row.values() {
+            [Value::Int(x), Value::Int(y), Value::Int(z), Value::Int(w)] => {
+                [*x, *y, *z, *w] == wanted
+            }
+            _ => false,
+        },
+        _ => false,
+    }
+}
+
+// How often nothing was there at a pull of a member's source.
+fn waits(collector: &AtomCollector<MemSource>, index: usize) -> Option<u64> {
+    if index >= collector.len() {
+        return None;
+    }
+    Some(collector.member(index).waited)
+}
+
+// The script has a turn for each pull, so a pull in between shows.
+#[test]
+fn accepts_what_is_held_without_a_pull(rt: HostRuntime) -> Result<(), Fail> {
+    let alloc = rt.alloc();
+    let script = Script {
+        turns: vec![in alloc; Turn::Give(27), Turn::NotYet]?,
+        then: Turn::Give(100),
+    };
+    let text = b"a,b,c,d\n1,2,3,4\n5,6,7,8\n9,9,10,11\n";
+    let sites = vec![in alloc; site(alloc, "first", text, script)?]?;
+    let mut opener = MemOpener::new(alloc, sites, Vec::new(alloc));
+    let mut collector = collector(alloc, plain_selection(alloc)?)?;
+    assert!(rt; collector.len() == 2);
+    assert!(rt; matches!(collector.accept(alloc, 0), Collected::Still));
+    open(alloc, &mut collector, &mut opener, 0)?;
+    assert!(rt; collector.len() == 2);
+    assert!(rt; matches!(collector.accept(alloc, 0), Collected::Still));
+
+    assert!(rt; matches!(collector.step(alloc, 0), Collected::Moved));
+    assert!(rt; gives(collector.accept(alloc, 0), [1, 2, 3, 4]));
+    assert!(rt; gives(collector.accept(alloc, 0), [5, 6, 7, 8]));
+    assert!(rt; matches!(collector.accept(alloc, 0), Collected::Still));
+    assert_eq!(rt; stand(&collector, 0), Some((MemberState::Active, None, 2)));
+    assert_eq!(rt; waits(&collector, 0), Some(0));
+
+    assert!(rt; matches!(collector.step(alloc, 0), Collected::Still));
+    assert!(rt; matches!(collector.accept(alloc, 0), Collected::Still));
+    assert_eq!(rt; waits(&collector, 0), Some(1));
+
+    assert!(rt; matches!(collector.step(alloc, 0), Collected::Moved));
+    assert!(rt; gives(collector.accept(alloc, 0), [9, 9, 10, 11]));
+    assert!(rt; matches!(collector.step(alloc, 0), Collected::Moved));
+    assert!(rt; matches!(collector.accept(alloc, 0), Collected::Still));
+    assert_eq!(rt; stand(&collector, 0), Some((MemberState::Ended, None, 3)));
+    Ok(())
+}
+
 // A value that may be handed to another thread.
 fn sends<T: Send>(_value: &T) {}
 
 #[test]
 fn finds_members_by_their_names(rt: HostRuntime) -> Result<(), Fail> {
     let alloc = rt.alloc();
-    let collector = collector(alloc)?;
+    let collector = collector(alloc, selection(alloc)?)?;
     sends(&collector);
     for (group, mirror, wanted) in [(1, 1, Some(0)), (2, 1, Some(1)), (2, 2, None), (3, 1, None)] {
         let name = MemberName {

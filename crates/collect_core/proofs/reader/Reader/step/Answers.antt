@@ -1,34 +1,14 @@
-use Rattle.std.proofs.Common.{rules, ◌≡◌, Some, None, sym, subst, ◌∙◌}
+use Rattle.std.proofs.Common.{rules, ◌≡◌}
 use Rattle.med_base.specs.declared.member.MemberState.TheVariants as state
-use Rattle.csv_wrap.specs.declared.wrapper.NextRow.TheVariants as next
-use Rattle.collect_core.specs.Reading.{Reader}
-use Rattle.collect_core.specs.Selecting.{selected_row}
-use Rattle.collect_core.specs.Turning.{TakesNext}
-use Rattle.collect_core.proofs.Pulling.{went_pull, went_row, went_unselected}
+use Rattle.collect_core.specs.declared.reader.Collected.TheVariants as collected
+use Rattle.collect_core.proofs.Pulling.{Took, went_pull}
 use Rattle.collect_core.proofs.reader.Reader.step.Goals as goal
 
-pub returns-in-Ok-Some : goal.returns-in-Ok-Some
-returns-in-Ok-Some g c =
-    let in' = c.self-in-Row.inside in
-    let mid : Reader g.row.S.Denot = record { wrapper = in'.wrapper; waiting = in'.waiting; accepted = in'.accepted; state = in'.state; fault = in'.fault; waited = in'.waited } in
-    let active : c.args.self.now.state ≡ state.Active = search rules in
-    let takes : TakesNext g.S.Source c.args.self.now mid (next.Row c.in-Row.row) = subst (λ r. TakesNext g.S.Source c.args.self.now r (next.Row c.in-Row.row)) (sym c.self-in-Row.view_is) c.in-Row.ensures in
-    let selected : selected_row c.args.selection.now c.in-Row.row ≡ Some c.in-Ok-Some.values = sym c.in-Ok-Some.ensures.selected ∙ c.in-Ok-Some.field-0-is in
-    let went = went_row g.S.Source c.args.self.now mid c.in-Row.row c.requires.reader active takes c.args.selection.now c.in-Ok-Some.values selected in
-    record { reader = went.reader; reads = went.reads; columns = went.columns; source = went.same; falls = went.falls }
-
-pub returns-in-Ok-None : goal.returns-in-Ok-None
-returns-in-Ok-None g c =
-    let in' = c.self-in-Row.inside in
-    let mid : Reader g.row.S.Denot = record { wrapper = in'.wrapper; waiting = in'.waiting; accepted = in'.accepted; state = in'.state; fault = in'.fault; waited = in'.waited } in
-    let active : c.args.self.now.state ≡ state.Active = search rules in
-    let takes : TakesNext g.S.Source c.args.self.now mid (next.Row c.in-Row.row) = subst (λ r. TakesNext g.S.Source c.args.self.now r (next.Row c.in-Row.row)) (sym c.self-in-Row.view_is) c.in-Row.ensures in
-    let selected : selected_row c.args.selection.now c.in-Row.row ≡ None = sym c.in-Ok-None.ensures.selected ∙ c.in-Ok-None.field-0-is in
-    let went = went_unselected g.S.Source c.args.self.now mid c.in-Row.row c.requires.reader active takes c.args.selection.now selected in
-    record { reader = went.reader; reads = went.reads; columns = went.columns; source = went.same; falls = went.falls }
-
-pub returns-in-Nothing : goal.returns-in-Nothing
-returns-in-Nothing g c =
-    let active : c.args.self.now.state ≡ state.Active = search rules in
-    let went = went_pull g.S.Source c.args.selection.now c.args.self.now c.next.new.self c.pull.new.self c.requires.reader active c.in-Nothing.ensures c.pull.result c.pull.ensures in
-    record { reader = went.reader; reads = went.reads; columns = went.columns; source = went.same; falls = went.falls }
+pub returns-in-Still-clause-reads : goal.returns-in-Still-clause-reads
+returns-in-Still-clause-reads g c =
+    let e = c.in-Still.ensures in
+    let took : Took g.S.Source c.args.selection.now c.args.self.now c.accept.new.self collected.Still =
+    record { reader = e.reader; reads = e.reads; columns = e.columns; same = e.source; falls = e.falls } in
+    let active : c.accept.new.self.state ≡ state.Active = search rules in
+    let went = went_pull g.S.Source c.args.selection.now c.args.self.now c.accept.new.self c.pull.new.self took active c.pull.result c.pull.ensures in
+    went.reads
