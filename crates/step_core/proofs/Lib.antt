@@ -1,0 +1,14 @@
+pub mod Wide
+pub mod Taking
+pub mod Giving
+pub mod Edging
+pub mod Pushing
+pub mod Obeying
+pub mod Counting
+pub mod Falling
+pub mod Running
+pub mod Answering
+pub mod Finding
+pub mod Changing
+pub mod Keeping
+pub mod Starving

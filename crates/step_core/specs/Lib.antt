@@ -1,0 +1,12 @@
+pub mod Edges
+pub mod Nets
+pub mod Coded
+pub mod Viewed
+pub mod Names
+pub mod Standing
+pub mod Joins
+pub mod Leaves
+pub mod Steps
+pub mod Work
+pub mod Wholes
+pub mod Members
