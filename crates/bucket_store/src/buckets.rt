@@ -5,15 +5,15 @@ ghost use Rattle.std.specs.List.{sum};
 ghost use Rattle.tuple_core.specs.Hashing.{bucket_of};
 ghost use Rattle.tuple_core.specs.Values.{FitsRow};
 ghost use Rattle.bucket_store.specs.Held.{ArePlaced, BelongTo, greatest_total, has_key, no_row, rows_in, rows_weight, weights_of, with_row};
-ghost use Rattle.bucket_store.specs.Keys.{address_of};
+ghost use Rattle.bucket_store.specs.Addresses.{address_of};
 ghost use Rattle.bucket_store.specs.Places.{next_place};
 
+use crate::address::Address;
 use crate::bucket::{Bucket, Stored};
-use crate::hashing::key_hash;
 use std::alloc::{AllocError, Global};
 use std::marker::Model;
 use std::mem;
-use tuple_core::{Row, bucket_of, weight};
+use tuple_core::{KeyRoom, Row, weight};
 
 /// The most that all rows of a side weigh.
 pub const GREATEST_TOTAL: u64 = 1 << 60;
@@ -22,13 +22,6 @@ pub const GREATEST_TOTAL: u64 = 1 << 60;
 pub fn constant_is_the_limit()
     ensures { GREATEST_TOTAL ≡ greatest_total }
 {}
-
-/// Where a key's rows are looked for. It is worked out once for a key, and is the same on each side of as many buckets.
-#[derive(Clone, Copy, Debug)]
-pub struct Address {
-    pub bucket: u32,
-    hash: u32,
-}
 
 /// The rows of a side. Contracts see, for each bucket, the list of its rows with their keys and numbers.
 #[derive(Debug, Drop)]
@@ -78,13 +71,10 @@ impl Buckets {
     }
 
     /// Where the key's rows are looked for.
-    pub fn address(&self, key: &[u8]) -> Address
+    pub fn address(&self, key: &KeyRoom) -> Address
         ensures { result ≡ address_of (length self.now) key.now }
     {
-        Address {
-            bucket: bucket_of(key, self.count()),
-            hash: key_hash(key),
-        }
+        Address::of(key, self.count())
     }
 
     /// Puts a copy of a row behind the others of its key's bucket. Where memory runs out, nothing has changed. So it is
@@ -93,12 +83,12 @@ impl Buckets {
     pub fn insert(
         &mut self,
         alloc: Global,
-        address: Address,
+        address: &Address,
         key: &[u8],
         row: &Row,
         number: u64,
     ) -> Result<(), AllocError>
-        requires { address ≡ address_of (length self.old) key.now }
+        requires { address.now ≡ address_of (length self.old) key.now }
         ensures ok { OnOk result (self.new ≡ with_row self.old (record { key = key.now; row = row.now; number = number })) }
         ensures fits { FitsRow row.now }
         ensures err { OnErr result (self.new ≡ self.old) }
@@ -107,20 +97,20 @@ impl Buckets {
         if weight > GREATEST_TOTAL - self.total {
             return Err(AllocError);
         }
-        let bucket = address.bucket as usize;
-        self.buckets[bucket].push(alloc, key, address.hash, row, number)?;
+        let bucket = address.bucket() as usize;
+        self.buckets[bucket].push(alloc, key, address.hash(), row, number)?;
         self.weights[bucket] += weight;
         self.total += weight;
         Ok(())
     }
 
     /// The first place, at or after one, of the key's bucket at which a row has this key.
-    pub fn probe(&self, address: Address, key: &[u8], from: u32) -> Option<u32>
-        requires { address ≡ address_of (length self.now) key.now }
+    pub fn probe(&self, address: &Address, key: &[u8], from: u32) -> Option<u32>
+        requires { address.now ≡ address_of (length self.now) key.now }
         ensures next { result ≡ next_place (has_key key.now) (rows_in self.now (bucket_of (length self.now) key.now)) from }
         ensures few { IfSome result (λ place. place + 1 < 2 ^ 32) }
     {
-        self.buckets[address.bucket as usize].next(key, address.hash, from as usize)
+        self.buckets[address.bucket() as usize].next(key, address.hash(), from as usize)
     }
 
     /// Where a row lies, and its number.

@@ -11,9 +11,12 @@
 //!
 //! Contracts see, for each bucket, the list of its rows with their keys and numbers (`specs/Held.antt`). How they lie is
 //! in `specs/Stored.antt`. The places of one key are found along a chain (`specs/Chained.antt`), which goes by a hash of
-//! its own (`specs/Keys.antt`): the hash that chooses the bucket is alike for many keys of one bucket.
+//! its own (`specs/Keys.antt`): the hash that chooses the bucket is alike for many keys of one bucket. An [`Address`] keeps
+//! that hash of its key, so that it is worked out once; contracts see of an address its key and its bucket
+//! (`specs/Addresses.antt`).
 #![tactic(auto)]
 
+mod address;
 mod bucket;
 mod buckets;
 mod chains;
@@ -21,5 +24,6 @@ mod hashing;
 #[cfg(test)]
 mod tests;
 
+pub use address::Address;
 pub use bucket::{Bucket, Stored};
-pub use buckets::{Address, Buckets, GREATEST_TOTAL, constant_is_the_limit};
+pub use buckets::{Buckets, GREATEST_TOTAL, constant_is_the_limit};

@@ -19,7 +19,7 @@ use Rattle.join_core.specs.Kept.{IsHeld, IsJoin}
 use Rattle.join_core.specs.Sides.{TwoSides, buckets_on, joining_of, probing_of, with_buckets}
 use Rattle.join_core.specs.State.{Joining, Pile, Probing, arrived, cursor_start, open_pile, pile_at, rows_of, with_held}
 use Rattle.join_core.specs.Steps.{JoinStep, on_side}
-use Rattle.bucket_store.specs.Keys.{address_of}
+use Rattle.bucket_store.specs.Addresses.{address_of}
 use Rattle.join_core.specs.declared.probe.Probe.{Probe}
 use Rattle.join_core.proofs.Flat.{all_in, each_in, more_in, rows_open}
 use Rattle.join_core.proofs.Pointwise.{new_pends, old_rests}

@@ -32,7 +32,7 @@ open_at buckets h = ap is_none (closed_open buckets (bucket_of (length (map open
 none_over : (same l r passed : Bool) → l ≡ true → r ≡ true → (same && (not (l && r) && not passed)) ≡ false
 none_over same l r passed a b = rw (a, b) (and_turned same false)
 
-none_left : (shape : Shape) (sides : TwoSides) (left_ended right_ended : Bool) (next : ℕ) (probe : Option Probe) → pairs_left_over (joining_of shape sides left_ended right_ended next probe) ≡ []
+pub none_left : (shape : Shape) (sides : TwoSides) (left_ended right_ended : Bool) (next : ℕ) (probe : Option Probe) → pairs_left_over (joining_of shape sides left_ended right_ended next probe) ≡ []
 none_left shape sides left_ended right_ended next probe =
     pairs_alike (is_left_over s) (λ l r. false) (rows_of s.left) (rows_of s.right) (alike_all (rows_of s.left) (rows_of s.right) (is_left_over s) (λ l r. false)
     (λ l r. none_over (bucket_of (length s.left) l.key == bucket_of (length s.right) r.key) (is_open (pile_for s.left l)) (is_open (pile_for s.right r)) (is_passed s l r) (open_at sides.left l) (open_at sides.right r)))

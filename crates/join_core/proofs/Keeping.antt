@@ -13,8 +13,7 @@ use Rattle.row_match.specs.Shapes.{Shape, key_row, vars_of}
 use Rattle.row_match.specs.declared.shape.Side.{Side}
 use Rattle.row_match.specs.declared.shape.Side.TheVariants as side
 use Rattle.bucket_store.specs.Held.{ArePlaced, Held, HeldList, rows_in, with_row}
-use Rattle.bucket_store.specs.Keys.{address_of}
-use Rattle.bucket_store.specs.declared.buckets.Address.{Address}
+use Rattle.bucket_store.specs.Addresses.{KeyAddress, address_of}
 use Rattle.bucket_store.proofs.Keeping.{belong_more, placed_set}
 use Rattle.join_core.specs.Kept.{AreRising, IsHeld, IsJoin, IsProbing, IsSide, facing_rows}
 use Rattle.join_core.specs.Sides.{TwoSides, buckets_on, opposite, probing_of, with_buckets}
@@ -75,7 +74,7 @@ many_on side.Left sides e = sym e
 many_on side.Right sides e = e
 
 bucket_is : {shape : Shape} {sides : TwoSides} {next : ℕ} {key : Bytes} {p : Probe} → IsProbing shape sides next key p → p.address.bucket ≡ bucket_of (length (buckets_on p.side sides)) key
-bucket_is h = ap (λ (a : Address). a.bucket) h.address_is
+bucket_is h = ap (λ (a : KeyAddress). a.bucket) h.address_is
 
 pub faces : (shape : Shape) (sides : TwoSides) (next : ℕ) (key : Bytes) (p : Probe) → IsSide side.Left shape next sides.left → IsSide side.Right shape next sides.right → length sides.left ≡ length sides.right
     → IsProbing shape sides next key p → Faces (buckets_on p.side sides) (buckets_on (opposite p.side) sides) (probing_of p) (own_of key p) p.place

@@ -9,7 +9,7 @@ use Rattle.row_match.specs.Shapes.{Shape, key_row, vars_of}
 use Rattle.row_match.specs.declared.shape.Side.{Side}
 use Rattle.row_match.specs.declared.shape.Side.TheVariants as side
 use Rattle.bucket_store.specs.Held.{ArePlaced, Held, HeldList, rows_in}
-use Rattle.bucket_store.specs.Keys.{address_of}
+use Rattle.bucket_store.specs.Addresses.{address_of}
 use Rattle.join_core.specs.Sides.{TwoSides, buckets_on, opposite}
 use Rattle.join_core.specs.declared.probe.Probe.{Probe}
 

@@ -9,7 +9,7 @@ ghost use Rattle.row_match.specs.Patterns.{most_variables};
 ghost use Rattle.row_match.specs.Shapes.{vars_of};
 ghost use Rattle.row_match.specs.declared.shape.Side.{Side as ASide};
 ghost use Rattle.row_match.specs.declared.shape.Side.TheVariants as which;
-ghost use Rattle.join_core.specs.Given.{given_rows, joined_rows, pairs_given, pairs_owed};
+ghost use Rattle.join_core.specs.Given.{given_rows, joined_rows, pairs_given, pairs_left_over, pairs_owed};
 ghost use Rattle.join_core.specs.Sides.{at_place, glued_on, opposite};
 ghost use Rattle.join_core.specs.State.{AreRowsOver, ended, fresh_join, has_ended, pile_weights, piles_of, stored_rows};
 ghost use Rattle.join_core.specs.Steps.{Arrives, GivesNext, JoinStep, came_in, gave_out, is_finished, on_side};
@@ -98,11 +98,11 @@ impl Join {
             return Arrive::NoMemory(row);
         };
         self.shape.key_of(side, &row, &mut self.key);
+        let address = self.sides.on(side).address(&self.key);
         let key = self.key.as_slice();
-        let address = self.sides.on(side).address(key);
         if let Err(AllocError) = self
             .sides
-            .insert(alloc, side, address, key, &row, self.next)
+            .insert(alloc, side, &address, key, &row, self.next)
         {
             return Arrive::NoMemory(row);
         }
@@ -128,14 +128,14 @@ impl Join {
             return OutStep::Nothing;
         };
         let facing = self.sides.on(opposite(probe.side));
-        let Some(place) = facing.probe(probe.address, self.key.as_slice(), probe.place) else {
+        let Some(place) = facing.probe(&probe.address, self.key.as_slice(), probe.place) else {
             self.probe = None;
             return OutStep::Nothing;
         };
         let Ok(glued) = glue_at(alloc, &self.shape, facing, probe, place) else {
             return OutStep::NoMemory;
         };
-        let number = facing.entry(probe.address.bucket, place).number();
+        let number = facing.entry(probe.address.bucket(), place).number();
         self.probe = moved_on(self.probe.take(), place + 1, number + 1);
         OutStep::Row(glued)
     }
@@ -165,6 +165,7 @@ impl Join {
         ensures rows { (side : ASide) → AreRowsOver (vars_of side self.now.shape) (stored_rows side self.now) }
         ensures left { AreDistinct self.now.shape.left }
         ensures short { length (glued_variables self.now.shape.left self.now.shape.right) ≤ most_variables }
+        ensures none_left { pairs_left_over self.now ≡ [] }
     {
         let _variables = self.shape.variables().as_slice();
     }
@@ -198,7 +199,7 @@ fn glue_at(
     requires other { length (slice_index_or (rows_in facing.now probe.now.address.bucket) place no_row).row ≡ length (vars_of (opposite probe.now.side) shape.now) }
     ensures { IfOk result (λ r. r ≡ glued_on probe.now.side shape.now probe.now.row (slice_index_or (rows_in facing.now probe.now.address.bucket) place no_row).row) }
 {
-    let other = facing.row_at(alloc, probe.address.bucket, place)?;
+    let other = facing.row_at(alloc, probe.address.bucket(), place)?;
     match probe.side {
         Side::Left => shape.glue(alloc, &probe.row, &other),
         Side::Right => shape.glue(alloc, &other, &probe.row),

@@ -4,7 +4,7 @@ ghost use Rattle.std.specs.Prelude.{◌≡◌, ◌<◌, ◌+◌, ◌^◌, [], le
 ghost use Rattle.tuple_core.specs.Hashing.{bucket_of};
 ghost use Rattle.tuple_core.specs.Values.{FitsRow};
 ghost use Rattle.bucket_store.specs.Held.{has_key, no_row, rows_in, weights_of, with_row};
-ghost use Rattle.bucket_store.specs.Keys.{address_of};
+ghost use Rattle.bucket_store.specs.Addresses.{address_of};
 ghost use Rattle.bucket_store.specs.Places.{next_place};
 ghost use Rattle.join_core.specs.Sides.{buckets_on, opposite, with_buckets};
 
@@ -62,12 +62,12 @@ impl Sides {
         &mut self,
         alloc: Global,
         side: Side,
-        address: Address,
+        address: &Address,
         key: &[u8],
         row: &Row,
         number: u64,
     ) -> Result<(), AllocError>
-        requires { address ≡ address_of (length (buckets_on side self.old)) key.now }
+        requires { address.now ≡ address_of (length (buckets_on side self.old)) key.now }
         ensures ok { OnOk result (self.new ≡ with_buckets side self.old (with_row (buckets_on side self.old) (record { key = key.now; row = row.now; number = number }))) }
         ensures fits { FitsRow row.now }
         ensures err { OnErr result (self.new ≡ self.old) }

@@ -11,7 +11,8 @@ use Rattle.step_core.specs.declared.actor.Actor.{Actor}
 use Rattle.step_core.specs.declared.actor.Actor.TheVariants as actor
 use Rattle.step_core.specs.declared.actor.StepEnd.{StepEnd}
 use Rattle.step_core.proofs.Edging.{edge_given}
-use Rattle.step_core.proofs.Pushing.{Pushes, pushes}
+use Rattle.step_core.specs.Going.{Pushes}
+use Rattle.step_core.proofs.Pushing.{pushes}
 
 leaf_obeys : {S M : Type 0} (source : Source S M) (x : Actor) (l k : LeafState S) (w v : Waits) (end : StepEnd) → LeafObeys source x l k w v end → LeafActs source l k w v end
 leaf_obeys source (actor.Pull m) l k w v end (index, (is, pulls)) = inl (index, pulls)
@@ -24,18 +25,19 @@ obeys_acts source x (fork j a b) u w v end (inl (k, (is, (the_turn, (means, acts
 obeys_acts source x (fork j a b) u w v end (inr (same, inl (c, (y, (is, (other, acts)))))) = inr (same, inl (c, (y, (is, obeys_acts source x a c j.left y end acts))))
 obeys_acts source x (fork j a b) u w v end (inr (same, inr (c, (y, (is, (other, (absent, acts))))))) = inr (same, inr (c, (y, (is, obeys_acts source x b c j.right y end acts))))
 
--- a net stands after a turn of one of its operators
+-- a net stands after turns of its operators
+pub net_pushed : {S M : Type 0} (source : Source S M) (t u : NetTree S) (w v : Waits) (rows : RowList) (h : NetStands source (record { tree = t; edge = w; rows = rows })) → Pushes source t u w v h.gave
+    → NetStands source (record { tree = u; edge = v; rows = rows })
+net_pushed source t u w v rows h p = record {
+  gave = p.now;
+  tree = p.stands;
+  edge = edge_given w v rows h.gave p.now p.more (IsDone t) (IsDone u) h.edge p.rows p.given p.taken p.put p.bag (p.closed h.edge.closed) p.quiet;
+  placed = p.placed h.placed;
+}
+
 pub net_stands : {S M : Type 0} (source : Source S M) (t u : NetTree S) (w v : Waits) (rows : RowList) (end : StepEnd) → TreeActs source t u w v end → NetStands source (record { tree = t; edge = w; rows = rows })
     → NetStands source (record { tree = u; edge = v; rows = rows })
-net_stands source t u w v rows end acts h = go (pushes source t u w v end h.gave acts h.tree)
-  where
-    go : Pushes source t u w v h.gave → NetStands source (record { tree = u; edge = v; rows = rows })
-    go p = record {
-      gave = p.now;
-      tree = p.stands;
-      edge = edge_given w v rows h.gave p.now p.more (IsDone t) (IsDone u) h.edge p.rows p.given p.taken p.put p.bag (p.closed h.edge.closed) p.quiet;
-      placed = p.placed h.placed;
-    }
+net_stands source t u w v rows end acts h = net_pushed source t u w v rows h (pushes source t u w v end h.gave acts h.tree)
 
 -- what came of the operators, where the actor means one of them or none
 pub net_stands_after : {S M : Type 0} (source : Source S M) (x : Actor) (t u : NetTree S) (w v : Waits) (rows : RowList) (result : Option StepEnd)

@@ -1,5 +1,5 @@
 -- A net stands after each turn of one of its operators.
-use Rattle.std.proofs.Common.{◌≡◌, inl, inr, ◌==◌, ◌&&◌, ◌+◌, ℕ, Bool, true, false, List, [], ◌∷◌, ◌++◌, length, filter, cond, Option, Some, None, is_none, refl, sym, ap, subst, ◌∙◌, append-nil, arith}
+use Rattle.std.proofs.Common.{◌≡◌, inl, inr, ◌==◌, ◌&&◌, ℕ, Bool, true, false, List, [], ◌∷◌, ◌++◌, length, filter, cond, Option, Some, None, is_none, refl, sym, ap, subst, ◌∙◌, append-nil, arith}
 use Rattle.std.specs.List.{AllByRecursion, list_all}
 use Rattle.std.proofs.lemmas.Bool.{and_parts, false≢true}
 use Rattle.std.proofs.lemmas.List.Elements.{filter-append}
@@ -22,13 +22,15 @@ use Rattle.join_core.specs.State.{Joining, Probing, stored_rows}
 use Rattle.join_core.specs.Steps.{is_finished}
 use Rattle.collect_core.specs.Members.{AreWithin}
 use Rattle.collect_core.specs.Selecting.{Select, selected_rows}
-use Rattle.collect_core.specs.Steps.{Gathers, given_rows as selected_of, gave as gave_by, with_rows}
+use Rattle.collect_core.specs.Steps.{Gathers, Steps, StepsHeld, given_rows as selected_of, gave as gave_by, with_rows}
+use Rattle.collect_core.specs.declared.reader.Collected.{Collected}
 use Rattle.collect_core.proofs.Leaves.{given_width}
 use Rattle.step_core.specs.Edges.{PutsEnd, PutsRows, SameWaits, Waits}
 use Rattle.step_core.specs.Joins.{ComesIn, EndComes, Feeds, FeedsOn, GivesRow, JoinTurn, Takes, TakesItem, at_rest}
-use Rattle.step_core.specs.Leaves.{ClosesLeaf, Pulls, PullsMember}
+use Rattle.step_core.specs.Going.{Pushes}
+use Rattle.step_core.specs.Leaves.{ClosesLeaf, CollectorActs, MemberGives, MemberTurn, Pulls, TakesHeld}
 use Rattle.step_core.specs.Nets.{JoinState, LeafState, NetTree, leaf, fork, joined_variables, passed_rows, passes, variables}
-use Rattle.step_core.specs.Standing.{ArePlaced, AreWide, FillTerms, HasSelected, IsDone, IsWhole, Reads, Stands, TakesFrom}
+use Rattle.step_core.specs.Standing.{AreWide, FillTerms, HasSelected, IsDone, IsWhole, Reads, Stands, TakesFrom}
 use Rattle.step_core.specs.Steps.{LeafActs, TreeActs}
 use Rattle.step_core.specs.declared.actor.StepEnd.{StepEnd}
 use Rattle.step_core.specs.declared.actor.StepEnd.TheVariants as step_end
@@ -37,22 +39,6 @@ use Rattle.step_core.specs.declared.actor.Turn.TheVariants as turn
 use Rattle.step_core.proofs.Edging.{bag_more, edge_ended, edge_given, edge_same, edge_taken, taken_goes_on}
 use Rattle.step_core.proofs.Giving.{puts_none, same_waits}
 use Rattle.step_core.proofs.Wide.{wide_both, wide_parts, wide_same}
-
--- The operator at the top gave these rows more, and put them on its edge out.
-pub record Pushes {S M : Type 0} (source : Source S M) (t u : NetTree S) (w v : Waits) (gave : RowList) : Type 0 where
-  pub more : RowList
-  pub now : RowList
-  pub stands : Stands source u now
-  pub bag : SameBag now (gave ++ more)
-  pub rows : v.rows ≡ w.rows ++ more
-  pub given : v.given ≡ w.given + length more
-  pub taken : v.taken ≡ w.taken
-  pub put : w.put ≡ true → v.put ≡ true
-  pub closed : (w.put ≡ true → IsDone t) → v.put ≡ true → IsDone u
-  pub quiet : w.put ≡ true → IsDone t → more ≡ []
-  pub wide : AreWide (variables t) more
-  pub same_variables : variables u ≡ variables t
-  pub placed : ArePlaced t → ArePlaced u
 
 -- nothing was given, and the tree is the same
 pub keeps : {S M : Type 0} (source : Source S M) (t : NetTree S) (w v : Waits) (gave : RowList) → SameWaits w v → Stands source t gave → Pushes source t t w v gave
@@ -114,8 +100,9 @@ terms_filled : (select : Select) (columns : List Column) (accepted : List RowLis
 terms_filled select columns [] e h = tt
 terms_filled select columns (rows ∷ accepted) e h = (as_terms columns (length select.terms) rows e h.0.0, terms_filled select columns accepted e h.1)
 
-pulls_push : {S M : Type 0} (source : Source S M) (l k : LeafState S) (index : ℕ) (w v : Waits) (end : StepEnd) (gave : RowList) → PullsMember source l k index w v end → HasSelected source l gave → Pushes source (leaf l) (leaf k) w v gave
-pulls_push {S} {M} source l k index w v end gave p h = record {
+member_pushes : {S M : Type 0} (source : Source S M) (Acts : CollectorActs S) (l k : LeafState S) (index : ℕ) (w v : Waits) (end : StepEnd) (gave : RowList) → MemberGives source Acts l k index w v end → k.collecting.select ≡ l.collecting.select
+    → HasSelected source l gave → Pushes source (leaf l) (leaf k) w v gave
+member_pushes {S} {M} source Acts l k index w v end gave p select_is h = record {
   more = more;
   now = now;
   stands = record { accepted = after; has = gathers.has; told = p.turn.told after gathers.has; sound = p.turn.sound; fill = terms_filled k.collecting.select k.collecting.columns after p.turn.width (p.turn.within after gathers.has); selected = ap (λ s. selected_of s after) (sym select_is); wide = wide_now };
@@ -140,9 +127,6 @@ pulls_push {S} {M} source l k index w v end gave p h = record {
     more : RowList
     more = gave_by p.result
 
-    select_is : k.collecting.select ≡ l.collecting.select
-    select_is = ap (λ c. c.select) p.turn.steps.changed
-
     now : RowList
     now = selected_of l.collecting.select after
 
@@ -152,14 +136,28 @@ pulls_push {S} {M} source l k index w v end gave p h = record {
     wide_now : AreWide (pattern_variables k.collecting.select.terms) now
     wide_now = subst (λ s. AreWide (pattern_variables k.collecting.select.terms) (selected_of s after)) select_is (selected_wide k.collecting.select k.collecting.columns after p.turn.width (p.turn.within after gathers.has))
 
-pull_pushes : {S M : Type 0} (source : Source S M) (l k : LeafState S) (index : ℕ) (w v : Waits) (end : StepEnd) (gave : RowList) → Pulls source l k index w v end → HasSelected source l gave → Pushes source (leaf l) (leaf k) w v gave
-pull_pushes source l k index w v step_end.Moved gave p h = pulls_push source l k index w v step_end.Moved gave p h
-pull_pushes source l k index w v step_end.Still gave (inl o) h = subst (λ x. Pushes source (leaf l) (leaf x) w v gave) (sym o.same) (subst (λ x. Pushes source (leaf l) (leaf l) w x gave) (sym o.out) (keeps source (leaf l) w w gave (same_waits w) h))
-pull_pushes source l k index w v step_end.Still gave (inr p) h = pulls_push source l k index w v step_end.Still gave p h
-pull_pushes source l k index w v step_end.NoMemory gave (inl o) h = subst (λ x. Pushes source (leaf l) (leaf x) w v gave) (sym o.same) (keeps source (leaf l) w v gave o.out h)
-pull_pushes source l k index w v step_end.NoMemory gave (inr p) h = pulls_push source l k index w v step_end.NoMemory gave p h
+-- a turn of a member, which leaves what its atom selects
+turn_of_member : {S M : Type 0} (source : Source S M) (Acts : CollectorActs S) (l k : LeafState S) (index : ℕ) (w v : Waits) (end : StepEnd) (gave : RowList)
+    → ((result : Collected) → Acts l.collecting k.collecting index result → k.collecting.select ≡ l.collecting.select) → MemberTurn source Acts l k index w v end → HasSelected source l gave → Pushes source (leaf l) (leaf k) w v gave
+turn_of_member {S} {M} source Acts l k index w v end gave same p h = go end p
+  where
+    gives : (e : StepEnd) → MemberGives source Acts l k index w v e → Pushes source (leaf l) (leaf k) w v gave
+    gives e g = member_pushes source Acts l k index w v e gave g (same g.result g.turn.acts) h
 
-close_pushes : {S M : Type 0} (source : Source S M) (l k : LeafState S) (w v : Waits) (end : StepEnd) (gave : RowList) → ClosesLeaf l k w v end → HasSelected source l gave → Pushes source (leaf l) (leaf k) w v gave
+    go : (e : StepEnd) → MemberTurn source Acts l k index w v e → Pushes source (leaf l) (leaf k) w v gave
+    go step_end.Moved g = gives step_end.Moved g
+    go step_end.Still (inl o) = subst (λ x. Pushes source (leaf l) (leaf x) w v gave) (sym o.same) (subst (λ x. Pushes source (leaf l) (leaf l) w x gave) (sym o.out) (keeps source (leaf l) w w gave (same_waits w) h))
+    go step_end.Still (inr g) = gives step_end.Still g
+    go step_end.NoMemory (inl o) = subst (λ x. Pushes source (leaf l) (leaf x) w v gave) (sym o.same) (keeps source (leaf l) w v gave o.out h)
+    go step_end.NoMemory (inr g) = gives step_end.NoMemory g
+
+pub pull_pushes : {S M : Type 0} (source : Source S M) (l k : LeafState S) (index : ℕ) (w v : Waits) (end : StepEnd) (gave : RowList) → Pulls source l k index w v end → HasSelected source l gave → Pushes source (leaf l) (leaf k) w v gave
+pull_pushes source l k index w v end gave p h = turn_of_member source (Steps source) l k index w v end gave (λ result acts. ap (λ c. c.select) acts.changed) p h
+
+pub held_pushes : {S M : Type 0} (source : Source S M) (l k : LeafState S) (index : ℕ) (w v : Waits) (end : StepEnd) (gave : RowList) → TakesHeld source l k index w v end → HasSelected source l gave → Pushes source (leaf l) (leaf k) w v gave
+held_pushes source l k index w v end gave p h = turn_of_member source (StepsHeld source) l k index w v end gave (λ result acts. ap (λ c. c.select) acts.changed) p h
+
+pub close_pushes : {S M : Type 0} (source : Source S M) (l k : LeafState S) (w v : Waits) (end : StepEnd) (gave : RowList) → ClosesLeaf l k w v end → HasSelected source l gave → Pushes source (leaf l) (leaf k) w v gave
 close_pushes source l k w v step_end.Moved gave p h = subst (λ x. Pushes source (leaf l) (leaf x) w v gave) (sym p.same) (ends source (leaf l) w v gave p.put p.settled h)
 close_pushes source l k w v step_end.Still gave (same, why) h = subst (λ x. Pushes source (leaf l) (leaf x) w v gave) (sym same) (subst (λ x. Pushes source (leaf l) (leaf l) w x gave) (sym why.out) (keeps source (leaf l) w w gave (same_waits w) h))
 close_pushes source l k w v step_end.NoMemory gave p h = absurd p
@@ -409,7 +407,7 @@ item_turns which j k us vs L R from_left from_right w v end i h = record {
     rested : j.joining.probe ≡ None → at_rest j.joining ≡ j.joining
     rested e = ap (λ o. record j.joining { probe = o }) (sym e)
 
-join_pushes : {S M : Type 0} (source : Source S M) (the_turn : Turn) (j k : JoinState) (a b : NetTree S) (from_left from_right : RowList) (w v : Waits) (end : StepEnd) → JoinTurn the_turn j k w v end
+pub join_pushes : {S M : Type 0} (source : Source S M) (the_turn : Turn) (j k : JoinState) (a b : NetTree S) (from_left from_right : RowList) (w v : Waits) (end : StepEnd) → JoinTurn the_turn j k w v end
     → Stands source a from_left → Stands source b from_right → TakesFrom j (variables a) (variables b) (IsDone a) (IsDone b) from_left from_right → Pushes source (fork j a b) (fork k a b) w v (passed_rows j)
 join_pushes {S} {M} source (turn.Take which) j k a b from_left from_right w v end acts left right h = go end acts
   where
@@ -434,7 +432,7 @@ join_pushes {S} {M} source turn.Close j k a b from_left from_right w v end acts 
 
 -- ---- the tree
 
-left_pushes : {S M : Type 0} (source : Source S M) (j : JoinState) (a b c : NetTree S) (from_left from_right : RowList) (x w : Waits) → Pushes source a c j.left x from_left → Stands source b from_right
+pub left_pushes : {S M : Type 0} (source : Source S M) (j : JoinState) (a b c : NetTree S) (from_left from_right : RowList) (x w : Waits) → Pushes source a c j.left x from_left → Stands source b from_right
     → TakesFrom j (variables a) (variables b) (IsDone a) (IsDone b) from_left from_right → Pushes source (fork j a b) (fork (record j { left = x }) c b) w w (passed_rows j)
 left_pushes source j a b c from_left from_right x w p right h = record {
   more = [];
@@ -474,7 +472,7 @@ left_pushes source j a b c from_left from_right x w p right h = record {
   placed = λ placed. (p.placed placed.0, placed.1);
 }
 
-right_pushes : {S M : Type 0} (source : Source S M) (j : JoinState) (a b c : NetTree S) (from_left from_right : RowList) (x w : Waits) → Pushes source b c j.right x from_right → Stands source a from_left
+pub right_pushes : {S M : Type 0} (source : Source S M) (j : JoinState) (a b c : NetTree S) (from_left from_right : RowList) (x w : Waits) → Pushes source b c j.right x from_right → Stands source a from_left
     → TakesFrom j (variables a) (variables b) (IsDone a) (IsDone b) from_left from_right → Pushes source (fork j a b) (fork (record j { right = x }) a c) w w (passed_rows j)
 right_pushes source j a b c from_left from_right x w p left h = record {
   more = [];

@@ -3,6 +3,7 @@ use Rattle.std.proofs.Math.Seq.{drop-cons}
 use Rattle.std.proofs.Common.{◌≡◌, List, [], ◌∷◌, length, drop, slice_index_or, suc, ℕ, ◌+◌, ◌<◌, ◌≤◌, refl, subst, arith}
 use Rattle.std.specs.Prelude.{⊤}
 use Rattle.med_base.specs.declared.outside.source.Source.{Ghosts as Source}
+use Rattle.step_core.specs.Going.{then}
 use Rattle.step_core.specs.Nets.{NetState}
 use Rattle.step_core.specs.Standing.{NetStands}
 use Rattle.step_core.specs.Steps.{NetRuns, NetSteps, or_moved}
@@ -10,12 +11,6 @@ use Rattle.step_core.specs.Work.{Falls, net_left}
 use Rattle.step_core.specs.declared.actor.Actor.{Actor}
 use Rattle.step_core.specs.declared.actor.StepEnd.{StepEnd}
 use Rattle.step_core.specs.declared.actor.StepEnd.TheVariants as step_end
-
--- the end of some steps and of those behind them
-abbrev pub after : StepEnd → StepEnd → StepEnd
-after step_end.Moved last = or_moved last
-after step_end.Still last = last
-after step_end.NoMemory last = last
 
 -- the end isn't want of memory
 abbrev pub GoesOnFrom : StepEnd → Type 0
@@ -27,25 +22,25 @@ GoesOnFrom step_end.NoMemory = ⊥
 pub record HasRun {S M : Type 0} (source : Source S M) (schedule left : List Actor) (s t : NetState S) (end : StepEnd) : Type 0 where
   pub goes_on : GoesOnFrom end
   pub stands : NetStands source t
-  pub runs : (u : NetState S) (last : StepEnd) → NetRuns source left t u last → NetRuns source schedule s u (after end last)
+  pub runs : (u : NetState S) (last : StepEnd) → NetRuns source left t u last → NetRuns source schedule s u (then end last)
   pub falls : Falls end (net_left source s) (net_left source t)
 
 pub begins : {S M : Type 0} (source : Source S M) (schedule : List Actor) (s : NetState S) → NetStands source s → HasRun source schedule schedule s s step_end.Still
 begins source schedule s h = record { goes_on = tt; stands = h; runs = λ u last r. r; falls = Prim.omega arith }
 
-twice : (end last : StepEnd) → GoesOnFrom end → after end (or_moved last) ≡ or_moved last
+twice : (end last : StepEnd) → GoesOnFrom end → then end (or_moved last) ≡ or_moved last
 twice step_end.Moved step_end.Moved g = refl
 twice step_end.Moved step_end.Still g = refl
 twice step_end.Moved step_end.NoMemory g = refl
 twice step_end.Still last g = refl
 twice step_end.NoMemory last g = absurd g
 
-falls_on : (end : StepEnd) (n m k : ℕ) → GoesOnFrom end → Falls end n m → k ≤ m → Falls end n k
+pub falls_on : (end : StepEnd) (n m k : ℕ) → GoesOnFrom end → Falls end n m → k ≤ m → Falls end n k
 falls_on step_end.Moved n m k g f h = Prim.omega (arith, f, h)
 falls_on step_end.Still n m k g f h = Prim.omega (arith, f, h)
 falls_on step_end.NoMemory n m k g f h = absurd g
 
-falls_more : (end : StepEnd) (n m k : ℕ) → GoesOnFrom end → Falls end n m → k < m → k < n
+pub falls_more : (end : StepEnd) (n m k : ℕ) → GoesOnFrom end → Falls end n m → k < m → k < n
 falls_more step_end.Moved n m k g f h = Prim.omega (arith, f, h)
 falls_more step_end.Still n m k g f h = Prim.omega (arith, f, h)
 falls_more step_end.NoMemory n m k g f h = absurd g
@@ -69,7 +64,7 @@ stood source schedule left x s t u end h steps stands falls = record {
   falls = falls_on end (net_left source s) (net_left source t) (net_left source u) h.goes_on h.falls falls;
 }
 
-no_memory_last : (end : StepEnd) → GoesOnFrom end → after end step_end.NoMemory ≡ step_end.NoMemory
+no_memory_last : (end : StepEnd) → GoesOnFrom end → then end step_end.NoMemory ≡ step_end.NoMemory
 no_memory_last step_end.Moved g = refl
 no_memory_last step_end.Still g = refl
 no_memory_last step_end.NoMemory g = absurd g
@@ -78,7 +73,7 @@ pub stops : {S M : Type 0} (source : Source S M) (schedule left : List Actor) (x
     → NetRuns source schedule s u step_end.NoMemory
 stops source schedule left x s t u end h steps stands = subst (λ e. NetRuns source schedule s u e) (no_memory_last end h.goes_on) (h.runs u step_end.NoMemory (record { between = u; stands = stands; first = step_end.NoMemory; steps = steps; rest = (refl, refl) }))
 
-still_last : (end : StepEnd) → GoesOnFrom end → after end step_end.Still ≡ end
+still_last : (end : StepEnd) → GoesOnFrom end → then end step_end.Still ≡ end
 still_last step_end.Moved g = refl
 still_last step_end.Still g = refl
 still_last step_end.NoMemory g = absurd g

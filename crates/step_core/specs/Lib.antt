@@ -8,5 +8,10 @@ pub mod Joins
 pub mod Leaves
 pub mod Steps
 pub mod Work
+pub mod Going
 pub mod Wholes
+pub mod Planting
+pub mod Plans
 pub mod Members
+pub mod Passes
+pub mod Parts

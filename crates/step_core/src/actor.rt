@@ -1,5 +1,8 @@
 //! Who acts in a net, and what came of a step.
 
+ghost use Rattle.std.specs.Prelude.{◌≡◌};
+ghost use Rattle.step_core.specs.Going.{then};
+
 use med_base::{MemberName, Name};
 use row_match::Side;
 
@@ -22,6 +25,19 @@ pub enum StepEnd {
     Still,
     /// Memory ran out. The step may be made again.
     NoMemory,
+}
+
+impl StepEnd {
+    /// The end of two parts, one after the other: they moved where one of them did.
+    pub(crate) fn then(self, next: StepEnd) -> StepEnd
+        ensures { result ≡ then self next }
+    {
+        match (self, next) {
+            (StepEnd::NoMemory, _) | (_, StepEnd::NoMemory) => StepEnd::NoMemory,
+            (StepEnd::Still, end) => end,
+            (StepEnd::Moved, _) => StepEnd::Moved,
+        }
+    }
 }
 
 /// What an actor means of a join.

@@ -3,11 +3,15 @@
 ghost use Rattle.std.specs.Prelude.{◌≡◌, ◌<◌, ◌&&◌, ◌==◌, not, [], ◌∷◌, length, true, false, OnOk};
 ghost use Rattle.med_prelude.specs.Counts.{greatest_count};
 ghost use Rattle.step_core.specs.Edges.{IsUnused, PutsRows, SameWaits};
+ghost use Rattle.step_core.specs.Passes.{has_room};
 
 use std::alloc::{AllocError, Global};
 use std::collections::VecDeque;
 use std::marker::Model;
 use tuple_core::Row;
+
+/// How many rows may wait on an edge before a pass holds back its giver.
+pub(crate) const MOST_WAITING: usize = 1024;
 
 /// Rows that wait, first in, first out; behind the last one the mark that no more will come.
 #[derive(Drop)]
@@ -61,6 +65,13 @@ impl Edge {
         ensures { result ≡ self.now.put }
     {
         self.put
+    }
+
+    /// Whether fewer than [`MOST_WAITING`] rows wait.
+    pub(crate) fn has_room(&self) -> bool
+        ensures { result ≡ has_room self.now }
+    {
+        self.rows.len() < MOST_WAITING
     }
 
     /// Whether the mark was put, and not taken yet.

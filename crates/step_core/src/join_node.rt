@@ -1,6 +1,7 @@
 //! A join of a net: its two edges in, and the comparisons that are placed at it.
 
 ghost use Rattle.std.specs.Prelude.{◌≡◌, [], None};
+ghost use Rattle.join_core.specs.Given.{pairs_left_over};
 ghost use Rattle.step_core.specs.Joins.{ClosesJoin, Feeds, FeedsOn, GivesOut, MayCome, MayTake, Takes};
 
 use crate::actor::StepEnd;
@@ -13,9 +14,9 @@ use std::marker::Model;
 /// A join, with the rows that wait for it.
 #[derive(Drop)]
 pub struct JoinNode {
-    number: u32,
-    join: Join,
-    filter: Filter,
+    pub(crate) number: u32,
+    pub(crate) join: Join,
+    pub(crate) filter: Filter,
     pub(crate) left: Edge,
     pub(crate) right: Edge,
 }
@@ -80,6 +81,13 @@ impl JoinNode {
             Side::Left => feed(alloc, &mut self.join, side, &mut self.left),
             Side::Right => feed(alloc, &mut self.join, side, &mut self.right),
         }
+    }
+
+    /// No pair is left for later, as all rows are in memory. It does nothing.
+    pub(crate) fn owes_nothing(&self)
+        ensures { pairs_left_over self.now.joining ≡ [] }
+    {
+        self.join.stands();
     }
 
     /// Puts the mark that no more rows will come, where all were given.

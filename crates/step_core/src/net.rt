@@ -1,7 +1,7 @@
 //! The net, and its steps.
 
 ghost use Rattle.std.specs.Prelude.{◌≡◌, true};
-ghost use Rattle.step_core.specs.Steps.{ListTurn, NetRuns, NetSteps, is_last_edge};
+ghost use Rattle.step_core.specs.Steps.{ListActs, ListTurn, NetRuns, NetSteps, is_last_edge};
 ghost use Rattle.step_core.specs.Standing.{NetStands};
 ghost use Rattle.step_core.specs.Wholes.{HasAnswered};
 ghost use Rattle.step_core.specs.Work.{Falls, net_left};
@@ -46,12 +46,21 @@ impl<S: Source> Net<S> {
         ensures falls { Falls result (net_left S.Source self.old) (net_left S.Source self.new) }
     {
         if self.is_last_edge(actor) {
-            return list_step(alloc, &mut self.rows, &mut self.edge);
+            return self.list_turn(alloc);
         }
         match self.tree.step(alloc, actor, &mut self.edge) {
             Some(end) => end,
             None => StepEnd::Still,
         }
+    }
+
+    // The turn of the list at the end of the last edge.
+    pub(crate) fn list_turn(&mut self, alloc: Global) -> StepEnd
+        ensures stands { NetStands S.Source self.new }
+        ensures acts { ListActs self.old self.new result }
+        ensures falls { Falls result (net_left S.Source self.old) (net_left S.Source self.new) }
+    {
+        list_step(alloc, &mut self.rows, &mut self.edge)
     }
 
     fn is_last_edge(&self, actor: Actor) -> bool

@@ -5,7 +5,7 @@ use Rattle.row_match.specs.Shapes.{vars_of}
 use Rattle.join_core.specs.Kept.{IsJoin, facing_rows}
 use Rattle.join_core.specs.Sides.{buckets_on, glued_on, joining_of, opposite}
 use Rattle.join_core.specs.Steps.{GivesMatch, GivesNothing, JoinStep}
-use Rattle.bucket_store.specs.Keys.{address_of}
+use Rattle.bucket_store.specs.Addresses.{address_of}
 use Rattle.join_core.proofs.Keeping.{address_on}
 use Rattle.join_core.proofs.Stepping.{gives_step, nothing_idle}
 use Rattle.join_core.proofs.Turning.{found_by, found_in, found_inside, gives_nothing, gives_row, gives_wide, keeps_row, moves, own_wide, partner_earlier, partner_wide}
@@ -54,15 +54,16 @@ pub entry-requires-clause-place : goal.entry-requires-clause-place
 entry-requires-clause-place c =
     let joined = subst (IsJoin c.self.inside.shape c.self.inside.sides c.self.inside.next c.self.inside.key) c.in-Some.is c.self.invariant in
     let found : Some c.in-Some-probe.place ≡ found_in c.self.inside.sides c.self.inside.key c.in-Some.probe = sym c.in-Some-probe.is ∙ found_by c.self.inside.sides c.self.inside.key c.in-Some.probe c.on-facing.result.now c.as_slice.result.now c.opposite.result c.probe.result c.probe.ensures.next c.as_slice.ensures c.on-facing.ensures c.opposite.ensures in
+    subst (λ b. c.in-Some-probe.place < length (rows_in c.on-facing.result.now b)) (sym c.bucket.ensures) (
     subst (λ f. c.in-Some-probe.place < length (rows_in f c.in-Some.probe.address.bucket)) (sym (c.on-facing.ensures ∙ ap (λ o. buckets_on o c.self.inside.sides) c.opposite.ensures))
-    (found_inside c.self.inside.shape c.self.inside.sides c.self.inside.next c.self.inside.key c.in-Some.probe joined c.in-Some-probe.place found)
+    (found_inside c.self.inside.shape c.self.inside.sides c.self.inside.next c.self.inside.key c.in-Some.probe joined c.in-Some-probe.place found))
 
 pub invariant_of-self-2 : goal.invariant_of-self-2
 invariant_of-self-2 c =
     let joined = subst (IsJoin c.self.inside.shape c.self.inside.sides c.self.inside.next c.self.inside.key) c.in-Some.is c.self.invariant in
     let found : Some c.in-Some-probe.place ≡ found_in c.self.inside.sides c.self.inside.key c.in-Some.probe = sym c.in-Some-probe.is ∙ found_by c.self.inside.sides c.self.inside.key c.in-Some.probe c.on-facing.result.now c.as_slice.result.now c.opposite.result c.probe.result c.probe.ensures.next c.as_slice.ensures c.on-facing.ensures c.opposite.ensures in
     let facing = c.on-facing.ensures ∙ ap (λ o. buckets_on o c.self.inside.sides) c.opposite.ensures in
-    let number = c.number-number.ensures ∙ c.entry.ensures ∙ ap (λ f. (get_or (rows_in f c.in-Some.probe.address.bucket) c.in-Some-probe.place no_row).number) facing in
+    let number = c.number-number.ensures ∙ c.entry.ensures ∙ ap (λ b. (get_or (rows_in c.on-facing.result.now b) c.in-Some-probe.place no_row).number) c.bucket.ensures ∙ ap (λ f. (get_or (rows_in f c.in-Some.probe.address.bucket) c.in-Some-probe.place no_row).number) facing in
     let moved = moves c.take.result c.moved_on.result c.in-Some.probe (c.in-Some-probe.place + 1) (c.number-number.result + 1) c.in-Some-probe.place (get_or (facing_rows c.self.inside.sides c.in-Some.probe) c.in-Some-probe.place no_row).number
     c.moved_on.ensures (c.take.ensures.value ∙ c.in-Some.is) refl (ap (λ n. n + 1) number) in
     keeps_row c.self.inside.shape c.self.inside.sides c.self.inside.next c.self.inside.key c.in-Some.probe joined c.moved_on.result c.in-Some-probe.place found moved
@@ -72,7 +73,7 @@ returns-clause-gives c =
     let joined = subst (IsJoin c.self.inside.shape c.self.inside.sides c.self.inside.next c.self.inside.key) c.in-Some.is c.self.invariant in
     let found : Some c.in-Some-probe.place ≡ found_in c.self.inside.sides c.self.inside.key c.in-Some.probe = sym c.in-Some-probe.is ∙ found_by c.self.inside.sides c.self.inside.key c.in-Some.probe c.on-facing.result.now c.as_slice.result.now c.opposite.result c.probe.result c.probe.ensures.next c.as_slice.ensures c.on-facing.ensures c.opposite.ensures in
     let facing = c.on-facing.ensures ∙ ap (λ o. buckets_on o c.self.inside.sides) c.opposite.ensures in
-    let number = c.number-number.ensures ∙ c.entry.ensures ∙ ap (λ f. (get_or (rows_in f c.in-Some.probe.address.bucket) c.in-Some-probe.place no_row).number) facing in
+    let number = c.number-number.ensures ∙ c.entry.ensures ∙ ap (λ b. (get_or (rows_in c.on-facing.result.now b) c.in-Some-probe.place no_row).number) c.bucket.ensures ∙ ap (λ f. (get_or (rows_in f c.in-Some.probe.address.bucket) c.in-Some-probe.place no_row).number) facing in
     let moved = moves c.take.result c.moved_on.result c.in-Some.probe (c.in-Some-probe.place + 1) (c.number-number.result + 1) c.in-Some-probe.place (get_or (facing_rows c.self.inside.sides c.in-Some.probe) c.in-Some-probe.place no_row).number
     c.moved_on.ensures (c.take.ensures.value ∙ c.in-Some.is) refl (ap (λ n. n + 1) number) in
     subst (λ s. GivesMatch s (joining_of c.self.inside.shape c.self.inside.sides c.self.inside.left_ended c.self.inside.right_ended c.self.inside.next c.moved_on.result) c.in-Ok.glued)
@@ -85,7 +86,7 @@ returns-clause-step c = gives_step c.args.self.now (joining_of c.self.inside.sha
     let joined = subst (IsJoin c.self.inside.shape c.self.inside.sides c.self.inside.next c.self.inside.key) c.in-Some.is c.self.invariant in
     let found : Some c.in-Some-probe.place ≡ found_in c.self.inside.sides c.self.inside.key c.in-Some.probe = sym c.in-Some-probe.is ∙ found_by c.self.inside.sides c.self.inside.key c.in-Some.probe c.on-facing.result.now c.as_slice.result.now c.opposite.result c.probe.result c.probe.ensures.next c.as_slice.ensures c.on-facing.ensures c.opposite.ensures in
     let facing = c.on-facing.ensures ∙ ap (λ o. buckets_on o c.self.inside.sides) c.opposite.ensures in
-    let number = c.number-number.ensures ∙ c.entry.ensures ∙ ap (λ f. (get_or (rows_in f c.in-Some.probe.address.bucket) c.in-Some-probe.place no_row).number) facing in
+    let number = c.number-number.ensures ∙ c.entry.ensures ∙ ap (λ b. (get_or (rows_in c.on-facing.result.now b) c.in-Some-probe.place no_row).number) c.bucket.ensures ∙ ap (λ f. (get_or (rows_in f c.in-Some.probe.address.bucket) c.in-Some-probe.place no_row).number) facing in
     let moved = moves c.take.result c.moved_on.result c.in-Some.probe (c.in-Some-probe.place + 1) (c.number-number.result + 1) c.in-Some-probe.place (get_or (facing_rows c.self.inside.sides c.in-Some.probe) c.in-Some-probe.place no_row).number
     c.moved_on.ensures (c.take.ensures.value ∙ c.in-Some.is) refl (ap (λ n. n + 1) number) in
     subst (λ s. GivesMatch s (joining_of c.self.inside.shape c.self.inside.sides c.self.inside.left_ended c.self.inside.right_ended c.self.inside.next c.moved_on.result) c.in-Ok.glued)
@@ -114,7 +115,7 @@ overflow_add-number c =
     let found : Some c.in-Some-probe.place ≡ found_in c.self.inside.sides c.self.inside.key c.in-Some.probe = sym c.in-Some-probe.is ∙ found_by c.self.inside.sides c.self.inside.key c.in-Some.probe c.on-facing.result.now c.as_slice.result.now c.opposite.result c.probe.result c.probe.ensures.next c.as_slice.ensures c.on-facing.ensures c.opposite.ensures in
     let facing = c.on-facing.ensures ∙ ap (λ o. buckets_on o c.self.inside.sides) c.opposite.ensures in
     let number : c.number-number.result ≡ (get_or (facing_rows c.self.inside.sides c.in-Some.probe) c.in-Some-probe.place no_row).number
-    = c.number-number.ensures ∙ c.entry.ensures ∙ ap (λ f. (get_or (rows_in f c.in-Some.probe.address.bucket) c.in-Some-probe.place no_row).number) facing in
+    = c.number-number.ensures ∙ c.entry.ensures ∙ ap (λ b. (get_or (rows_in c.on-facing.result.now b) c.in-Some-probe.place no_row).number) c.bucket.ensures ∙ ap (λ f. (get_or (rows_in f c.in-Some.probe.address.bucket) c.in-Some-probe.place no_row).number) facing in
     let earlier = partner_earlier c.self.inside.shape c.self.inside.sides c.self.inside.next c.self.inside.key c.in-Some.probe joined c.in-Some-probe.place found in
     let below : c.number-number.result < c.self.inside.next = subst (λ n. n < c.self.inside.next) (sym number) earlier in
     let fits : c.self.inside.next < 2 ^ 64 = omega arith in

@@ -1,0 +1,9 @@
+use Rattle.step_core.specs.Work.{net_left}
+use Rattle.step_core.proofs.Draining.{HasListed}
+use Rattle.step_core.proofs.net.Net.take_rows.Given as goal
+
+abbrev pub invariant-loop-end : goal.invariant-loop-end
+invariant-loop-end g l = HasListed g.S.Source l.fn.self l.self l.end
+
+abbrev pub decreases-loop-end : goal.decreases-loop-end
+decreases-loop-end g l = net_left g.S.Source l.self
