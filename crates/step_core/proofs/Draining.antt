@@ -7,6 +7,7 @@ use Rattle.step_core.specs.Going.{Goes, then}
 use Rattle.step_core.specs.Members.{members_of}
 use Rattle.step_core.specs.Nets.{NetState, NetTree}
 use Rattle.step_core.specs.Passes.{IsQuiet, NetIsQuiet, has_room, most_waiting}
+use Rattle.step_core.specs.Same.{SameOperators}
 use Rattle.step_core.specs.Standing.{NetStands}
 use Rattle.step_core.specs.Steps.{ListActs}
 use Rattle.step_core.specs.Work.{Falls, most_rows, net_left, tree_left}
@@ -16,6 +17,7 @@ use Rattle.step_core.proofs.Ending.{ends_fall, falls_then, moved_still, then_sti
 use Rattle.step_core.proofs.Falling.{with_rows}
 use Rattle.step_core.proofs.Obeying.{net_pushed}
 use Rattle.step_core.proofs.Running.{GoesOnFrom, falls_more, falls_on}
+use Rattle.step_core.proofs.Same.{operators_same, operators_then}
 
 -- ---- turns of operators, for the net
 
@@ -26,6 +28,9 @@ pub net_falls : {S M : Type 0} (source : Source S M) (end : StepEnd) (s : NetSta
     → Falls end (net_left source s) (net_left source (record { tree = u; edge = v; rows = rows }))
 net_falls source end s t u w v rows goes is h = subst (λ n. Falls end (net_left source n) (net_left source (record { tree = u; edge = v; rows = rows }))) is
     (with_rows end (most_rows source t w) (most_rows source u v) (tree_left source t w) (tree_left source u v) (length rows) (goes h.gave h.tree).1)
+
+pub net_same : {S M : Type 0} (source : Source S M) (end : StepEnd) (s : NetState S) (t u : NetTree S) (w v : Waits) (rows : RowList) → Goes source end t u w v → record { tree = t; edge = w; rows = rows } ≡ s → NetStands source (record { tree = t; edge = w; rows = rows }) → SameOperators s.tree u
+net_same source end s t u w v rows goes is h = subst (λ n. SameOperators n.tree u) is (goes h.gave h.tree).0.same
 
 -- ---- the list
 
@@ -72,13 +77,19 @@ swept_falls source end first next s t u w v rows n is goes same stands falls = e
 -- ---- a drain
 
 -- what waited went on for a while
-pub record HasDrained {S M : Type 0} (source : Source S M) (s t : NetState S) : Type 0 where
+pub record HasDrained {S M : Type 0} (source : Source S M) (s t : NetState S) (end : StepEnd) : Type 0 where
   pub stands : NetStands source t
+  pub operators : SameOperators s.tree t.tree
   pub members : members_of t.tree ≡ members_of s.tree
-  pub falls : net_left source t ≤ net_left source s
+  pub falls : Falls end (net_left source s) (net_left source t)
+  pub goes_on : GoesOnFrom end
 
-pub drained_none : {S M : Type 0} (source : Source S M) (s : NetState S) → NetStands source s → HasDrained source s s
-drained_none source s h = record { stands = h; members = refl; falls = Prim.omega arith }
+pub drained_none : {S M : Type 0} (source : Source S M) (s : NetState S) → NetStands source s → HasDrained source s s step_end.Still
+drained_none source s h = record { stands = h; operators = operators_same s.tree; members = refl; falls = Prim.omega arith; goes_on = tt }
 
-pub drained_more : {S M : Type 0} (source : Source S M) (s t u : NetState S) → HasDrained source s t → NetStands source u → members_of u.tree ≡ members_of t.tree → net_left source u < net_left source t → HasDrained source s u
-drained_more source s t u h stands members falls = record { stands = stands; members = members ∙ h.members; falls = Prim.omega (arith, h.falls, falls) }
+pub drained_more : {S M : Type 0} (source : Source S M) (s t u : NetState S) (end : StepEnd) → HasDrained source s t end → NetStands source u → SameOperators t.tree u.tree → members_of u.tree ≡ members_of t.tree → net_left source u < net_left source t → HasDrained source s u step_end.Moved
+drained_more source s t u end h stands operators members falls =
+    record { stands = stands; operators = operators_then s.tree t.tree u.tree h.operators operators; members = members ∙ h.members; falls = falls_more end (net_left source s) (net_left source t) (net_left source u) h.goes_on h.falls falls; goes_on = tt }
+
+pub drained_falls : {S M : Type 0} (source : Source S M) (s t u : NetState S) (end : StepEnd) → HasDrained source s t end → net_left source u ≤ net_left source t → Falls end (net_left source s) (net_left source u)
+drained_falls source s t u end h falls = falls_on end (net_left source s) (net_left source t) (net_left source u) h.goes_on h.falls falls

@@ -20,6 +20,7 @@ use Rattle.step_core.specs.declared.actor.Turn.TheVariants as turn
 use Rattle.step_core.proofs.Falling.{below_left, below_right, close_lowers, join_lowers, member_lowers, sized, still_lowers}
 use Rattle.step_core.proofs.Giving.{same_waits}
 use Rattle.step_core.proofs.Pushing.{close_pushes, held_pushes, join_pushes, keeps, left_pushes, pull_pushes, right_pushes}
+use Rattle.step_core.proofs.Same.{operators_then, variables_same}
 use Rattle.step_core.proofs.Taking.{may_take}
 use Rattle.step_core.proofs.Wide.{wide_both}
 
@@ -35,9 +36,8 @@ pushes_then source t u x w v y gave p q = record {
   put = λ e. q.put (p.put e);
   closed = λ before. q.closed (p.closed before);
   quiet = λ e done. ap (λ rows. rows ++ q.more) (p.quiet e done) ∙ q.quiet (p.put e) (p.closed (λ same. done) (p.put e));
-  wide = wide_both (variables t) p.more q.more p.wide (subst (λ vs. AreWide vs q.more) p.same_variables q.wide);
-  same_variables = q.same_variables ∙ p.same_variables;
-  placed = λ placed. q.placed (p.placed placed);
+  wide = wide_both (variables t) p.more q.more p.wide (subst (λ vs. AreWide vs q.more) (variables_same t u p.same) q.wide);
+  same = operators_then t u x p.same q.same;
 }
 
 lowers_then : (first next : StepEnd) (a b c l m n : ℕ) → Lowers first a b l m → Lowers next b c m n → Lowers (then first next) a c l n

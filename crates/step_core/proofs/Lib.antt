@@ -1,4 +1,5 @@
 pub mod Wide
+pub mod Same
 pub mod Taking
 pub mod Giving
 pub mod Sending

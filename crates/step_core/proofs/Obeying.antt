@@ -13,6 +13,7 @@ use Rattle.step_core.specs.declared.actor.StepEnd.{StepEnd}
 use Rattle.step_core.proofs.Edging.{edge_given}
 use Rattle.step_core.specs.Going.{Pushes}
 use Rattle.step_core.proofs.Pushing.{pushes}
+use Rattle.step_core.proofs.Same.{placed_same}
 
 leaf_obeys : {S M : Type 0} (source : Source S M) (x : Actor) (l k : LeafState S) (w v : Waits) (end : StepEnd) → LeafObeys source x l k w v end → LeafActs source l k w v end
 leaf_obeys source (actor.Pull m) l k w v end (index, (is, pulls)) = inl (index, pulls)
@@ -32,7 +33,7 @@ net_pushed source t u w v rows h p = record {
   gave = p.now;
   tree = p.stands;
   edge = edge_given w v rows h.gave p.now p.more (IsDone t) (IsDone u) h.edge p.rows p.given p.taken p.put p.bag (p.closed h.edge.closed) p.quiet;
-  placed = p.placed h.placed;
+  placed = placed_same t u p.same h.placed;
 }
 
 pub net_stands : {S M : Type 0} (source : Source S M) (t u : NetTree S) (w v : Waits) (rows : RowList) (end : StepEnd) → TreeActs source t u w v end → NetStands source (record { tree = t; edge = w; rows = rows })

@@ -20,7 +20,8 @@ use Rattle.join_core.specs.Given.{given_rows, is_pending_in}
 use Rattle.bucket_store.specs.Held.{Held}
 use Rattle.join_core.specs.State.{Joining, Probing, stored_rows}
 use Rattle.join_core.specs.Steps.{is_finished}
-use Rattle.collect_core.specs.Members.{AreWithin}
+use Rattle.collect_core.specs.Collecting.{Collecting}
+use Rattle.collect_core.specs.Members.{AreWithin, Member}
 use Rattle.collect_core.specs.Selecting.{Select, selected_rows}
 use Rattle.collect_core.specs.Steps.{Gathers, Steps, StepsHeld, given_rows as selected_of, gave as gave_by, with_rows}
 use Rattle.collect_core.specs.declared.reader.Collected.{Collected}
@@ -30,7 +31,8 @@ use Rattle.step_core.specs.Joins.{ComesIn, EndComes, Feeds, FeedsOn, GivesRow, J
 use Rattle.step_core.specs.Going.{Pushes}
 use Rattle.step_core.specs.Leaves.{ClosesLeaf, CollectorActs, MemberGives, MemberTurn, Pulls, TakesHeld}
 use Rattle.step_core.specs.Nets.{JoinState, LeafState, NetTree, leaf, fork, joined_variables, passed_rows, passes, variables}
-use Rattle.step_core.specs.Standing.{AreWide, FillTerms, HasSelected, IsDone, IsWhole, Reads, Stands, TakesFrom}
+use Rattle.step_core.specs.Same.{SameJoin}
+use Rattle.step_core.specs.Standing.{AreWide, FillTerms, HasSelected, IsDone, IsWhole, Stands, TakesFrom}
 use Rattle.step_core.specs.Steps.{LeafActs, TreeActs}
 use Rattle.step_core.specs.declared.actor.StepEnd.{StepEnd}
 use Rattle.step_core.specs.declared.actor.StepEnd.TheVariants as step_end
@@ -38,6 +40,7 @@ use Rattle.step_core.specs.declared.actor.Turn.{Turn}
 use Rattle.step_core.specs.declared.actor.Turn.TheVariants as turn
 use Rattle.step_core.proofs.Edging.{bag_more, edge_ended, edge_given, edge_same, edge_taken, taken_goes_on}
 use Rattle.step_core.proofs.Giving.{puts_none, same_waits}
+use Rattle.step_core.proofs.Same.{operators_same, same_join, variables_same}
 use Rattle.step_core.proofs.Wide.{wide_both, wide_parts, wide_same}
 
 -- nothing was given, and the tree is the same
@@ -54,8 +57,7 @@ keeps source t w v gave same h = record {
   closed = λ done e. done (sym same.put ∙ e);
   quiet = λ e done. refl;
   wide = refl;
-  same_variables = refl;
-  placed = λ placed. placed;
+  same = operators_same t;
 }
 
 -- the end was put
@@ -72,8 +74,7 @@ ends source t w v gave puts done h = subst (λ x. Pushes source t t w x gave) (s
   closed = λ before e. done;
   quiet = λ e d. refl;
   wide = refl;
-  same_variables = refl;
-  placed = λ placed. placed;
+  same = operators_same t;
 })
 
 -- ---- an atom
@@ -100,9 +101,13 @@ terms_filled : (select : Select) (columns : List Column) (accepted : List RowLis
 terms_filled select columns [] e h = tt
 terms_filled select columns (rows ∷ accepted) e h = (as_terms columns (length select.terms) rows e h.0.0, terms_filled select columns accepted e h.1)
 
-member_pushes : {S M : Type 0} (source : Source S M) (Acts : CollectorActs S) (l k : LeafState S) (index : ℕ) (w v : Waits) (end : StepEnd) (gave : RowList) → MemberGives source Acts l k index w v end → k.collecting.select ≡ l.collecting.select
+-- its members alone have changed
+members_alone : {S : Type 0} (s t : Collecting S) {members : List (Member S)} → t ≡ record s { members = members } → t ≡ record s { members = t.members }
+members_alone s t is = is ∙ ap (λ x. record s { members = x.members }) (sym is)
+
+member_pushes : {S M : Type 0} (source : Source S M) (Acts : CollectorActs S) (l k : LeafState S) (index : ℕ) (w v : Waits) (end : StepEnd) (gave : RowList) → MemberGives source Acts l k index w v end → k.collecting ≡ record l.collecting { members = k.collecting.members }
     → HasSelected source l gave → Pushes source (leaf l) (leaf k) w v gave
-member_pushes {S} {M} source Acts l k index w v end gave p select_is h = record {
+member_pushes {S} {M} source Acts l k index w v end gave p changed h = record {
   more = more;
   now = now;
   stands = record { accepted = after; has = gathers.has; told = p.turn.told after gathers.has; sound = p.turn.sound; fill = terms_filled k.collecting.select k.collecting.columns after p.turn.width (p.turn.within after gathers.has); selected = ap (λ s. selected_of s after) (sym select_is); wide = wide_now };
@@ -114,10 +119,15 @@ member_pushes {S} {M} source Acts l k index w v end gave p select_is h = record 
   closed = λ done e. absurd (false≢true (sym p.goes_on ∙ (sym p.put.put ∙ e)));
   quiet = λ e done. absurd (false≢true (sym p.goes_on ∙ e));
   wide = subst (λ s. AreWide (pattern_variables s.terms) more) select_is (wide_parts (pattern_variables k.collecting.select.terms) gave more (wide_same (pattern_variables k.collecting.select.terms) bag wide_now)).1;
-  same_variables = ap (λ s. pattern_variables s.terms) select_is;
-  placed = λ placed. subst (λ s. Reads (pattern_variables s.terms) s.comparisons) (sym select_is) placed;
+  same = record { atom = p.atom; columns = columns_is; select = select_is };
 }
   where
+    select_is : k.collecting.select ≡ l.collecting.select
+    select_is = ap (λ c. c.select) changed
+
+    columns_is : k.collecting.columns ≡ l.collecting.columns
+    columns_is = ap (λ c. c.columns) changed
+
     gathers : Gathers source l.collecting k.collecting index p.result h.accepted
     gathers = p.turn.gathers h.accepted h.has
 
@@ -138,7 +148,7 @@ member_pushes {S} {M} source Acts l k index w v end gave p select_is h = record 
 
 -- a turn of a member, which leaves what its atom selects
 turn_of_member : {S M : Type 0} (source : Source S M) (Acts : CollectorActs S) (l k : LeafState S) (index : ℕ) (w v : Waits) (end : StepEnd) (gave : RowList)
-    → ((result : Collected) → Acts l.collecting k.collecting index result → k.collecting.select ≡ l.collecting.select) → MemberTurn source Acts l k index w v end → HasSelected source l gave → Pushes source (leaf l) (leaf k) w v gave
+    → ((result : Collected) → Acts l.collecting k.collecting index result → k.collecting ≡ record l.collecting { members = k.collecting.members }) → MemberTurn source Acts l k index w v end → HasSelected source l gave → Pushes source (leaf l) (leaf k) w v gave
 turn_of_member {S} {M} source Acts l k index w v end gave same p h = go end p
   where
     gives : (e : StepEnd) → MemberGives source Acts l k index w v e → Pushes source (leaf l) (leaf k) w v gave
@@ -152,10 +162,10 @@ turn_of_member {S} {M} source Acts l k index w v end gave same p h = go end p
     go step_end.NoMemory (inr g) = gives step_end.NoMemory g
 
 pub pull_pushes : {S M : Type 0} (source : Source S M) (l k : LeafState S) (index : ℕ) (w v : Waits) (end : StepEnd) (gave : RowList) → Pulls source l k index w v end → HasSelected source l gave → Pushes source (leaf l) (leaf k) w v gave
-pull_pushes source l k index w v end gave p h = turn_of_member source (Steps source) l k index w v end gave (λ result acts. ap (λ c. c.select) acts.changed) p h
+pull_pushes source l k index w v end gave p h = turn_of_member source (Steps source) l k index w v end gave (λ result acts. members_alone l.collecting k.collecting acts.changed) p h
 
 pub held_pushes : {S M : Type 0} (source : Source S M) (l k : LeafState S) (index : ℕ) (w v : Waits) (end : StepEnd) (gave : RowList) → TakesHeld source l k index w v end → HasSelected source l gave → Pushes source (leaf l) (leaf k) w v gave
-held_pushes source l k index w v end gave p h = turn_of_member source (StepsHeld source) l k index w v end gave (λ result acts. ap (λ c. c.select) acts.changed) p h
+held_pushes source l k index w v end gave p h = turn_of_member source (StepsHeld source) l k index w v end gave (λ result acts. members_alone l.collecting k.collecting acts.changed) p h
 
 pub close_pushes : {S M : Type 0} (source : Source S M) (l k : LeafState S) (w v : Waits) (end : StepEnd) (gave : RowList) → ClosesLeaf l k w v end → HasSelected source l gave → Pushes source (leaf l) (leaf k) w v gave
 close_pushes source l k w v step_end.Moved gave p h = subst (λ x. Pushes source (leaf l) (leaf x) w v gave) (sym p.same) (ends source (leaf l) w v gave p.put p.settled h)
@@ -177,8 +187,7 @@ filter_one test x = one (test x)
 -- What a join's turn needs: it gave rows more, those that pass went out, and where all was given before, nothing changed.
 record Turns (j k : JoinState) (us vs : List ℕ) (L R : Type 0) (from_left from_right : RowList) (w v : Waits) (rows : RowList) : Type 0 where
   pub takes : TakesFrom k us vs L R from_left from_right
-  pub comparisons : k.comparisons ≡ j.comparisons
-  pub shape : k.joining.shape ≡ j.joining.shape
+  pub same : SameJoin j k
   pub given : SameBag (given_rows k.joining) (given_rows j.joining ++ rows)
   pub put : PutsRows w v (filter (passes j) rows)
   pub wide : AreWide (joined_variables j.joining.shape) rows
@@ -212,12 +221,11 @@ turn_pushes source j k a b from_left from_right w v rows t left right = record {
   closed = λ done e. subst IsWhole (sym (t.stays (done (sym t.put.put ∙ e))).1) (done (sym t.put.put ∙ e));
   quiet = λ e done. ap (λ x. filter (passes j) x) (t.stays done).0;
   wide = kept_wide (joined_variables j.joining.shape) (passes j) rows t.wide;
-  same_variables = ap joined_variables t.shape;
-  placed = λ placed. (placed.0, (placed.1.0, subst (λ s. Reads (joined_variables s) k.comparisons) (sym t.shape) (subst (λ cs. Reads (joined_variables j.joining.shape) cs) (sym t.comparisons) placed.1.1)));
+  same = (t.same, (operators_same a, operators_same b));
 }
   where
     passes_is : passes k ≡ passes j
-    passes_is = ap (λ cs. passes_of cs k.joining.shape) t.comparisons ∙ ap (λ s. passes_of j.comparisons s) t.shape
+    passes_is = ap (λ cs. passes_of cs k.joining.shape) t.same.comparisons ∙ ap (λ s. passes_of j.comparisons s) t.same.shape
 
 is_wide : (n m : ℕ) → n ≡ m → ((n == m) && true) ≡ true
 is_wide n m e = Prim.grind (arith, e)
@@ -246,8 +254,7 @@ row_turns j k us vs L R from_left from_right w v r h = record {
     left_wide = h.left_wide;
     right_wide = h.right_wide;
   });
-  comparisons = ap (λ x. x.comparisons) r.same;
-  shape = r.step.shape;
+  same = record { number = ap (λ x. x.number) r.same; shape = r.step.shape; comparisons = ap (λ x. x.comparisons) r.same };
   given = r.step.given;
   put = r.put;
   wide = is_wide (length r.row) (length (joined_variables j.joining.shape)) r.wide;
@@ -257,8 +264,7 @@ row_turns j k us vs L R from_left from_right w v r h = record {
 -- the join took an item of an edge, or nothing
 record Fed (j k : JoinState) (us vs : List ℕ) (L R : Type 0) (from_left from_right : RowList) : Type 0 where
   pub takes : TakesFrom k us vs L R from_left from_right
-  pub comparisons : k.comparisons ≡ j.comparisons
-  pub shape : k.joining.shape ≡ j.joining.shape
+  pub same : SameJoin j k
   pub given : SameBag (given_rows k.joining) (given_rows j.joining)
   pub stays : (j.joining.left_ended ≡ true) × (j.joining.right_ended ≡ true) → k.joining ≡ j.joining
 
@@ -275,8 +281,7 @@ comes_left j us vs L R from_left from_right t y c h = record {
     left_wide = h.left_wide;
     right_wide = h.right_wide;
   };
-  comparisons = refl;
-  shape = c.step.shape;
+  same = record { number = refl; shape = c.step.shape; comparisons = refl };
   given = bag_more c.step.given;
   stays = λ both. absurd (taken_goes_on j.left y (stored_rows side.Left j.joining) from_left c.row L h.left c.first (sym h.left_ended ∙ both.0));
 }
@@ -294,8 +299,7 @@ comes_right j us vs L R from_left from_right t y c h = record {
     left_wide = h.left_wide;
     right_wide = h.right_wide;
   };
-  comparisons = refl;
-  shape = c.step.shape;
+  same = record { number = refl; shape = c.step.shape; comparisons = refl };
   given = bag_more c.step.given;
   stays = λ both. absurd (taken_goes_on j.right y (stored_rows side.Right j.joining) from_right c.row R h.right c.first (sym h.right_ended ∙ both.1));
 }
@@ -313,8 +317,7 @@ ends_left j us vs L R from_left from_right t y c h = record {
     left_wide = h.left_wide;
     right_wide = h.right_wide;
   };
-  comparisons = refl;
-  shape = c.step.shape;
+  same = record { number = refl; shape = c.step.shape; comparisons = refl };
   given = bag_more c.step.given;
   stays = λ both. absurd (false≢true (sym c.last.goes_on ∙ (sym h.left_ended ∙ both.0)));
 }
@@ -332,8 +335,7 @@ ends_right j us vs L R from_left from_right t y c h = record {
     left_wide = h.left_wide;
     right_wide = h.right_wide;
   };
-  comparisons = refl;
-  shape = c.step.shape;
+  same = record { number = refl; shape = c.step.shape; comparisons = refl };
   given = bag_more c.step.given;
   stays = λ both. absurd (false≢true (sym c.last.goes_on ∙ (sym h.right_ended ∙ both.1)));
 }
@@ -352,8 +354,7 @@ same_edges j us vs L R from_left from_right x y a b h = record {
     left_wide = h.left_wide;
     right_wide = h.right_wide;
   };
-  comparisons = refl;
-  shape = refl;
+  same = same_join j x y;
   given = bag_refl _;
   stays = λ both. refl;
 }
@@ -378,8 +379,7 @@ item_turns : (which : Side) (j k : JoinState) (us vs : List ℕ) (L R : Type 0) 
     → Turns j k us vs L R from_left from_right w v []
 item_turns which j k us vs L R from_left from_right w v end i h = record {
   takes = on.takes;
-  comparisons = on.comparisons;
-  shape = on.shape ∙ i.no_match.step.shape;
+  same = record { number = on.same.number; shape = on.same.shape ∙ i.no_match.step.shape; comparisons = on.same.comparisons };
   given = bag_trans on.given i.no_match.step.given;
   put = puts_none w v i.out;
   wide = refl;
@@ -446,13 +446,13 @@ left_pushes source j a b c from_left from_right x w p right h = record {
         right,
         (
           record {
-            left_variables = h.left_variables ∙ sym p.same_variables;
+            left_variables = h.left_variables ∙ sym (variables_same a c p.same);
             right_variables = h.right_variables;
             left = edge_given j.left x (stored_rows side.Left j.joining) from_left p.now p.more (IsDone a) (IsDone c) h.left p.rows p.given p.taken p.put p.bag (p.closed h.left.closed) p.quiet;
             right = h.right;
             left_ended = h.left_ended ∙ sym p.taken;
             right_ended = h.right_ended;
-            left_wide = subst (λ us. AreWide us p.now) (sym p.same_variables) (wide_same (variables a) (bag_sym p.bag) (wide_both (variables a) from_left p.more h.left_wide p.wide));
+            left_wide = subst (λ us. AreWide us p.now) (sym (variables_same a c p.same)) (wide_same (variables a) (bag_sym p.bag) (wide_both (variables a) from_left p.more h.left_wide p.wide));
             right_wide = h.right_wide;
           },
           refl,
@@ -468,8 +468,7 @@ left_pushes source j a b c from_left from_right x w p right h = record {
   closed = λ done e. done e;
   quiet = λ e done. refl;
   wide = refl;
-  same_variables = refl;
-  placed = λ placed. (p.placed placed.0, placed.1);
+  same = (same_join j x j.right, (p.same, operators_same b));
 }
 
 pub right_pushes : {S M : Type 0} (source : Source S M) (j : JoinState) (a b c : NetTree S) (from_left from_right : RowList) (x w : Waits) → Pushes source b c j.right x from_right → Stands source a from_left
@@ -487,13 +486,13 @@ right_pushes source j a b c from_left from_right x w p left h = record {
         (
           record {
             left_variables = h.left_variables;
-            right_variables = h.right_variables ∙ sym p.same_variables;
+            right_variables = h.right_variables ∙ sym (variables_same b c p.same);
             left = h.left;
             right = edge_given j.right x (stored_rows side.Right j.joining) from_right p.now p.more (IsDone b) (IsDone c) h.right p.rows p.given p.taken p.put p.bag (p.closed h.right.closed) p.quiet;
             left_ended = h.left_ended;
             right_ended = h.right_ended ∙ sym p.taken;
             left_wide = h.left_wide;
-            right_wide = subst (λ us. AreWide us p.now) (sym p.same_variables) (wide_same (variables b) (bag_sym p.bag) (wide_both (variables b) from_right p.more h.right_wide p.wide));
+            right_wide = subst (λ us. AreWide us p.now) (sym (variables_same b c p.same)) (wide_same (variables b) (bag_sym p.bag) (wide_both (variables b) from_right p.more h.right_wide p.wide));
           },
           refl,
         ),
@@ -508,8 +507,7 @@ right_pushes source j a b c from_left from_right x w p left h = record {
   closed = λ done e. done e;
   quiet = λ e done. refl;
   wide = refl;
-  same_variables = refl;
-  placed = λ placed. (placed.0, (p.placed placed.1.0, placed.1.1));
+  same = (same_join j j.left x, (operators_same a, p.same));
 }
 
 pub pushes : {S M : Type 0} (source : Source S M) (t u : NetTree S) (w v : Waits) (end : StepEnd) (gave : RowList) → TreeActs source t u w v end → Stands source t gave → Pushes source t u w v gave

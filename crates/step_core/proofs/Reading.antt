@@ -14,12 +14,12 @@ use Rattle.csv_wrap.specs.declared.wrapper.Pulled.TheVariants as pulled
 use Rattle.collect_core.specs.Members.{Member}
 use Rattle.collect_core.specs.Reading.{Reader}
 use Rattle.collect_core.specs.Selecting.{Select}
-use Rattle.collect_core.specs.Steps.{Accepts, AcceptsHeld, Pulls as PullsReader, ReadsHeld, ReadsOn, StepsMember}
+use Rattle.collect_core.specs.Steps.{Accepts, AcceptsHeld, Pulls as PullsReader, ReadsHeld, ReadsOn, StepsMember, state_after}
 use Rattle.collect_core.specs.declared.reader.Collected.{Collected}
 use Rattle.collect_core.specs.declared.reader.Collected.TheVariants as collected
 use Rattle.collect_core.proofs.Pulling.{same_source}
-use Rattle.step_core.specs.Parts.{BecomesAt, MemberAccepts, ReaderAccepts}
-use Rattle.step_core.specs.Passes.{MemberGoesOn, ReaderGoesOn}
+use Rattle.step_core.specs.Parts.{BecomesAt}
+use Rattle.step_core.specs.Passes.{Becomes, GoesOrIsOver, HoldsNone, MemberAccepts, MemberGoesOn, ReaderAccepts, ReaderGoesOn, ReaderHoldsNone}
 
 -- ---- an element of a list
 
@@ -59,6 +59,13 @@ FirstsBecome R (suc n) [] [] = ⊤
 FirstsBecome R (suc n) [] (y ∷ ys) = ⊥
 FirstsBecome R (suc n) (x ∷ xs) [] = ⊥
 FirstsBecome R (suc n) (x ∷ xs) (y ∷ ys) = R x y × FirstsBecome R n xs ys
+
+pub firsts_weaker : {X : Type 0} (R Q : X → X → Type 0) → ((x y : X) → R x y → Q x y) → (n : ℕ) (xs ys : List X) → FirstsBecome R n xs ys → FirstsBecome Q n xs ys
+firsts_weaker R Q so zero xs ys h = h
+firsts_weaker R Q so (suc n) [] [] h = tt
+firsts_weaker R Q so (suc n) [] (y ∷ ys) h = absurd h
+firsts_weaker R Q so (suc n) (x ∷ xs) [] h = absurd h
+firsts_weaker R Q so (suc n) (x ∷ xs) (y ∷ ys) h = (so x y h.0, firsts_weaker R Q so n xs ys h.1)
 
 pub firsts_more : {X : Type 0} (R : X → X → Type 0) (n : ℕ) (xs ys zs : List X) → FirstsBecome R n xs ys → BecomesAt R n ys zs → FirstsBecome R (suc n) xs zs
 firsts_more R zero xs ys zs h k = begin xs zs (subst (λ l. BecomesAt R zero l zs) h k)
@@ -116,23 +123,33 @@ pulled_once {S} {M} source old new answer p = go p.before.ahead.framed.ended p.b
     go false (byte ∷ bytes) e k = inl (p.no_pull (inr (inr (subst (λ l. 0 < length l) (sym k) (Prim.omega arith)))) ∙ p.source_is)
     go false [] e k = inr (answer, subst (λ s. AnswersOnePull source s new.wrapper.source answer) p.source_is (p.one_pull (p.holds.1, e, k)))
 
+after_pull : (answer : Pulled) → GoesOrIsOver (state_after answer)
+after_pull pulled.Moved = tt
+after_pull pulled.NotYet = tt
+after_pull pulled.Ended = tt
+after_pull (pulled.Failed why) = tt
+after_pull pulled.NoMemory = tt
+
 reader_goes : {S M : Type 0} (source : Source S M) (select : Select) (old new : Reader S) (result : Collected) → SameSource source old.wrapper.source new.wrapper.source → ReadsOn source select old new result → ReaderGoesOn source old new
 reader_goes {S} {M} source select old new result same reads = go result reads
   where
     accepts : (row : RowValues) → Accepts source old new row → ReaderGoesOn source old new
-    accepts row a = record { same = same; once = inl a.source_is; grew = one_more old.accepted new.accepted a.counted; over = λ idle. absurd (idle a.was) }
+    accepts row a = record { same = same; once = inl a.source_is; grew = one_more old.accepted new.accepted a.counted; active = λ was. subst GoesOrIsOver (sym (a.state_is ∙ was)) tt; over = λ idle. absurd (idle a.was) }
 
     pulls : (answer : Pulled) → PullsReader source old new answer → ReaderGoesOn source old new
-    pulls answer p = record { same = same; once = pulled_once source old new answer p; grew = at_most old.accepted new.accepted p.nothing.counted; over = λ idle. absurd (idle p.was) }
+    pulls answer p = record { same = same; once = pulled_once source old new answer p; grew = at_most old.accepted new.accepted p.nothing.counted; active = λ was. subst GoesOrIsOver (sym p.state_is) (after_pull answer); over = λ idle. absurd (idle p.was) }
 
     go : (r : Collected) → ReadsOn source select old new r → ReaderGoesOn source old new
     go (collected.Row row) (values, a, is) = accepts values a
     go collected.Moved (inl (values, a, is)) = accepts values a
-    go collected.Moved (inr (inl (why, a))) = record { same = same; once = inl a.source_is; grew = at_most old.accepted new.accepted a.nothing.counted; over = λ idle. absurd (idle a.was) }
+    go collected.Moved (inr (inl (why, a))) =
+        record { same = same; once = inl a.source_is; grew = at_most old.accepted new.accepted a.nothing.counted; active = λ was. subst GoesOrIsOver (sym a.state_is) tt; over = λ idle. absurd (idle a.was) }
     go collected.Moved (inr (inr (answer, p, moved))) = pulls answer p
-    go collected.Still (inl (idle, is)) = record { same = same; once = inl (ap (λ r. r.wrapper.source) is); grew = at_most old.accepted new.accepted (ap (λ r. r.accepted) is); over = λ n. is }
+    go collected.Still (inl (idle, is)) =
+        record { same = same; once = inl (ap (λ r. r.wrapper.source) is); grew = at_most old.accepted new.accepted (ap (λ r. r.accepted) is); active = λ was. absurd (idle was); over = λ n. is }
     go collected.Still (inr p) = pulls pulled.NotYet p
-    go collected.NoMemory (was, s) = record { same = same; once = once s.one_pull; grew = at_most old.accepted new.accepted s.nothing.counted; over = λ idle. absurd (idle was) }
+    go collected.NoMemory (was, s) =
+        record { same = same; once = once s.one_pull; grew = at_most old.accepted new.accepted s.nothing.counted; active = λ active. subst GoesOrIsOver (sym (s.state_is ∙ active)) tt; over = λ idle. absurd (idle was) }
       where
         once : (new.wrapper.source ≡ old.wrapper.source) ⊎ AnswersOnePull source old.wrapper.source new.wrapper.source pulled.NoMemory
             → (new.wrapper.source ≡ old.wrapper.source) ⊎ ((answer : Pulled) × AnswersOnePull source old.wrapper.source new.wrapper.source answer)
@@ -143,15 +160,15 @@ reader_accepts : {S M : Type 0} (source : Source S M) (select : Select) (old new
 reader_accepts {S} {M} source select old new result same reads = go result reads
   where
     accepts : (row : RowValues) → Accepts source old new row → ReaderAccepts old new
-    accepts row a = record { source_is = same; grew = one_more old.accepted new.accepted a.counted; over = λ idle. absurd (idle a.was) }
+    accepts row a = record { source_is = same; grew = one_more old.accepted new.accepted a.counted; state_is = inl a.state_is; over = λ idle. absurd (idle a.was) }
 
     go : (r : Collected) → ReadsHeld source select old new r → ReaderAccepts old new
     go (collected.Row row) (values, a, is) = accepts values a
     go collected.Moved (inl (values, a, is)) = accepts values a
-    go collected.Moved (inr (why, a)) = record { source_is = same; grew = at_most old.accepted new.accepted a.nothing.counted; over = λ idle. absurd (idle a.was) }
-    go collected.Still (inl (idle, is)) = record { source_is = same; grew = at_most old.accepted new.accepted (ap (λ r. r.accepted) is); over = λ n. is }
-    go collected.Still (inr f) = record { source_is = same; grew = at_most old.accepted new.accepted f.nothing.counted; over = λ idle. absurd (idle f.was) }
-    go collected.NoMemory (was, s) = record { source_is = same; grew = at_most old.accepted new.accepted s.nothing.counted; over = λ idle. absurd (idle was) }
+    go collected.Moved (inr (why, a)) = record { source_is = same; grew = at_most old.accepted new.accepted a.nothing.counted; state_is = inr a.state_is; over = λ idle. absurd (idle a.was) }
+    go collected.Still (inl (idle, is)) = record { source_is = same; grew = at_most old.accepted new.accepted (ap (λ r. r.accepted) is); state_is = inl (ap (λ r. r.state) is); over = λ n. is }
+    go collected.Still (inr f) = record { source_is = same; grew = at_most old.accepted new.accepted f.nothing.counted; state_is = inl f.state_is; over = λ idle. absurd (idle f.was) }
+    go collected.NoMemory (was, s) = record { source_is = same; grew = at_most old.accepted new.accepted s.nothing.counted; state_is = inl s.state_is; over = λ idle. absurd (idle was) }
 
 -- ---- a member
 
@@ -180,14 +197,14 @@ goes_nowhere {S} {M} source m = go m.reader refl
   where
     go : (o : Option (Reader S)) → m.reader ≡ o → MatchOption o (m ≡ m) (λ r. (q : Reader S) × ((m ≡ record m { reader = Some q }) × ReaderGoesOn source r q))
     go None e = refl
-    go (Some r) e = (r, (with_reader m r e, record { same = same_source source r.wrapper.source r.wrapper.source refl; once = inl refl; grew = Prim.omega arith; over = λ idle. refl }))
+    go (Some r) e = (r, (with_reader m r e, record { same = same_source source r.wrapper.source r.wrapper.source refl; once = inl refl; grew = Prim.omega arith; active = λ was. subst GoesOrIsOver (sym was) tt; over = λ idle. refl }))
 
 pub accepts_none : {S : Type 0} (m : Member S) → MemberAccepts m m
 accepts_none {S} m = go m.reader refl
   where
     go : (o : Option (Reader S)) → m.reader ≡ o → MatchOption o (m ≡ m) (λ r. (q : Reader S) × ((m ≡ record m { reader = Some q }) × ReaderAccepts r q))
     go None e = refl
-    go (Some r) e = (r, (with_reader m r e, record { source_is = refl; grew = Prim.omega arith; over = λ idle. refl }))
+    go (Some r) e = (r, (with_reader m r e, record { source_is = refl; grew = Prim.omega arith; state_is = inl refl; over = λ idle. refl }))
 
 -- and then rows were accepted
 over_then : {S : Type 0} (r q p : Reader S) → (r.state ≢ state.Active → q ≡ r) → (q.state ≢ state.Active → p ≡ q) → r.state ≢ state.Active → p ≡ r
@@ -197,11 +214,12 @@ up_to : (a b c : ℕ) → a ≤ b → b ≤ c → a ≤ c
 up_to a b c h k = Prim.omega (arith, h, k)
 
 accepts_more : {S : Type 0} (r q p : Reader S) → ReaderAccepts r q → ReaderAccepts q p → ReaderAccepts r p
-accepts_more r q p a b = record { source_is = b.source_is ∙ a.source_is; grew = up_to r.accepted q.accepted p.accepted a.grew b.grew; over = over_then r q p a.over b.over }
-
--- where a member has no source, it stays as it is; where it has one, this may become of its reader
-abbrev Becomes : {S : Type 0} → (Reader S → Reader S → Type 0) → Member S → Member S → Type 0
-Becomes {S} R m n = MatchOption m.reader (n ≡ m) (λ r. (q : Reader S) × ((n ≡ record m { reader = Some q }) × R r q))
+accepts_more r q p a b = record { source_is = b.source_is ∙ a.source_is; grew = up_to r.accepted q.accepted p.accepted a.grew b.grew; state_is = states a.state_is b.state_is; over = over_then r q p a.over b.over }
+  where
+    states : (q.state ≡ r.state) ⊎ (q.state ≡ state.Failed) → (p.state ≡ q.state) ⊎ (p.state ≡ state.Failed) → (p.state ≡ r.state) ⊎ (p.state ≡ state.Failed)
+    states (inl e) (inl f) = inl (f ∙ e)
+    states (inr e) (inl f) = inr (f ∙ e)
+    states h (inr f) = inr f
 
 members_then : {S : Type 0} (R Q T : Reader S → Reader S → Type 0) → ((r q p : Reader S) → R r q → Q q p → T r p) → (m n o : Member S) → Becomes R m n → Becomes Q n o → Becomes T m o
 members_then {S} R Q T both m n o h k = go m.reader refl h
@@ -221,8 +239,29 @@ goes_more {S} {M} source r q p a b = record {
   same = subst (λ s. SameSource source r.wrapper.source s) (sym b.source_is) a.same;
   once = subst (λ s. (s ≡ r.wrapper.source) ⊎ ((answer : Pulled) × AnswersOnePull source r.wrapper.source s answer)) (sym b.source_is) a.once;
   grew = up_to r.accepted q.accepted p.accepted a.grew b.grew;
+  active = λ was. states (a.active was) b.state_is;
   over = over_then r q p a.over b.over;
 }
+  where
+    states : GoesOrIsOver q.state → (p.state ≡ q.state) ⊎ (p.state ≡ state.Failed) → GoesOrIsOver p.state
+    states goes (inl e) = subst GoesOrIsOver (sym e) goes
+    states goes (inr e) = subst GoesOrIsOver (sym e) tt
 
 pub goes_then_accepts : {S M : Type 0} (source : Source S M) (m n o : Member S) → MemberGoesOn source m n → MemberAccepts n o → MemberGoesOn source m o
 goes_then_accepts source m n o h k = members_then (ReaderGoesOn source) ReaderAccepts (ReaderGoesOn source) (goes_more source) m n o h k
+
+-- ---- where nothing is held
+
+pub holds_none : {S M : Type 0} (source : Source S M) (select : Select) (m n : Member S) → AcceptsHeld source select m n collected.Still → HoldsNone n
+holds_none {S} {M} source select m n h = go m.reader refl h
+  where
+    none : (o : Option (Reader S)) → o ≡ None → MatchOption o ⊤ ReaderHoldsNone
+    none o e = subst (λ x. MatchOption x ⊤ ReaderHoldsNone) (sym e) tt
+
+    held : (r q : Reader S) → ReadsHeld source select r q collected.Still → ReaderHoldsNone q
+    held r q (inl (idle, is)) = inl (λ active. idle (sym (ap (λ x. x.state) is) ∙ active))
+    held r q (inr f) = inr (f.waits, f.holds)
+
+    go : (o : Option (Reader S)) → m.reader ≡ o → MatchOption o ((collected.Still ≡ collected.Still) × (n ≡ m)) (λ r. (q : Reader S) × (n ≡ record m { reader = Some q }) × (q.wrapper.source ≡ r.wrapper.source) × ReadsHeld source select r q collected.Still) → HoldsNone n
+    go None e (still, same) = subst HoldsNone (sym same) (none m.reader e)
+    go (Some r) e (q, is, same, reads) = subst HoldsNone (sym is) (held r q reads)

@@ -6,7 +6,7 @@ use Rattle.med_base.specs.declared.outside.source.Source.{Ghosts as Source}
 use Rattle.step_core.specs.Going.{then}
 use Rattle.step_core.specs.Nets.{NetState}
 use Rattle.step_core.specs.Standing.{NetStands}
-use Rattle.step_core.specs.Steps.{NetRuns, NetSteps, or_moved}
+use Rattle.step_core.specs.Steps.{NetRuns, NetSteps}
 use Rattle.step_core.specs.Work.{Falls, net_left}
 use Rattle.step_core.specs.declared.actor.Actor.{Actor}
 use Rattle.step_core.specs.declared.actor.StepEnd.{StepEnd}
@@ -28,7 +28,7 @@ pub record HasRun {S M : Type 0} (source : Source S M) (schedule left : List Act
 pub begins : {S M : Type 0} (source : Source S M) (schedule : List Actor) (s : NetState S) → NetStands source s → HasRun source schedule schedule s s step_end.Still
 begins source schedule s h = record { goes_on = tt; stands = h; runs = λ u last r. r; falls = Prim.omega arith }
 
-twice : (end last : StepEnd) → GoesOnFrom end → then end (or_moved last) ≡ or_moved last
+twice : (end last : StepEnd) → GoesOnFrom end → then end (then step_end.Moved last) ≡ then step_end.Moved last
 twice step_end.Moved step_end.Moved g = refl
 twice step_end.Moved step_end.Still g = refl
 twice step_end.Moved step_end.NoMemory g = refl
@@ -51,7 +51,7 @@ pub moved : {S M : Type 0} (source : Source S M) (schedule left : List Actor) (x
 moved source schedule left x s t u end h steps stands falls = record {
   goes_on = tt;
   stands = stands;
-  runs = λ v last r. subst (λ e. NetRuns source schedule s v e) (twice end last h.goes_on) (h.runs v (or_moved last) (record { between = u; stands = stands; first = step_end.Moved; steps = steps; rest = (last, (r, refl)) }));
+  runs = λ v last r. subst (λ e. NetRuns source schedule s v e) (twice end last h.goes_on) (h.runs v (then step_end.Moved last) (record { between = u; stands = stands; first = step_end.Moved; steps = steps; rest = (last, (r, refl)) }));
   falls = falls_more end (net_left source s) (net_left source t) (net_left source u) h.goes_on h.falls falls;
 }
 

@@ -5,7 +5,8 @@ use Rattle.med_base.specs.declared.outside.source.Source.{Ghosts as Source}
 use Rattle.tuple_core.specs.Values.{RowList}
 use Rattle.step_core.specs.Edges.{Waits}
 use Rattle.step_core.specs.Nets.{NetTree, variables}
-use Rattle.step_core.specs.Standing.{ArePlaced, AreWide, IsDone, Stands}
+use Rattle.step_core.specs.Same.{SameOperators}
+use Rattle.step_core.specs.Standing.{AreWide, IsDone, Stands}
 use Rattle.step_core.specs.Work.{Falls, most_rows, tree_left}
 use Rattle.step_core.specs.declared.actor.StepEnd.{StepEnd}
 use Rattle.step_core.specs.declared.actor.StepEnd.TheVariants as step_end
@@ -28,11 +29,12 @@ pub record Pushes {S M : Type 0} (source : Source S M) (t u : NetTree S) (w v : 
   pub given : v.given ≡ w.given + length more
   pub taken : v.taken ≡ w.taken
   pub put : w.put ≡ true → v.put ≡ true
+  -- the end stands behind an operator that is done, if it did before
   pub closed : (w.put ≡ true → IsDone t) → v.put ≡ true → IsDone u
+  -- behind the end nothing was given
   pub quiet : w.put ≡ true → IsDone t → more ≡ []
   pub wide : AreWide (variables t) more
-  pub same_variables : variables u ≡ variables t
-  pub placed : ArePlaced t → ArePlaced u
+  pub same : SameOperators t u
 
 -- what isn't raised but by want of memory
 abbrev pub Stays : StepEnd → ℕ → ℕ → Type 0

@@ -3,6 +3,7 @@ pub mod Nets
 pub mod Coded
 pub mod Viewed
 pub mod Names
+pub mod Same
 pub mod Standing
 pub mod Joins
 pub mod Leaves

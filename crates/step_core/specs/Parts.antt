@@ -1,16 +1,14 @@
 -- What the parts of a pass are made of: what becomes of one member, and of one edge.
-use Rattle.std.specs.Prelude.{◌≡◌, ◌≢◌, ◌⊎◌, ℕ, ◌≤◌, zero, suc, false, List, [], ◌∷◌, Some}
-use Rattle.std.specs.Option.{MatchOption}
-use Rattle.med_base.specs.declared.member.MemberState.TheVariants as state
+use Rattle.std.specs.Prelude.{◌≡◌, ◌⊎◌, ℕ, zero, suc, false, List, [], ◌∷◌}
 use Rattle.med_base.specs.declared.outside.source.Source.{Ghosts as Source}
 use Rattle.row_match.specs.declared.shape.Side.{Side}
 use Rattle.collect_core.specs.Members.{Member}
-use Rattle.collect_core.specs.Reading.{Reader}
+use Rattle.collect_core.specs.Selecting.{Select}
 use Rattle.step_core.specs.Edges.{Waits}
 use Rattle.step_core.specs.Going.{Goes, then}
 use Rattle.step_core.specs.Joins.{Takes}
 use Rattle.step_core.specs.Nets.{JoinState, LeafState, leaf}
-use Rattle.step_core.specs.Passes.{has_room}
+use Rattle.step_core.specs.Passes.{HoldsNone, MemberAccepts, MemberGoesOn, MovesOn, Stood, has_room}
 use Rattle.step_core.specs.declared.actor.StepEnd.{StepEnd}
 use Rattle.step_core.specs.declared.actor.StepEnd.TheVariants as step_end
 
@@ -23,14 +21,15 @@ BecomesAt R n (x ∷ xs) [] = ⊥
 BecomesAt R zero (x ∷ xs) (y ∷ ys) = R x y × (ys ≡ xs)
 BecomesAt R (suc n) (x ∷ xs) (y ∷ ys) = (y ≡ x) × BecomesAt R n xs ys
 
--- rows that were held were accepted of a source, which wasn't pulled
-pub record ReaderAccepts {S : Type 0} (old new : Reader S) : Type 0 where
-  pub source_is : new.wrapper.source ≡ old.wrapper.source
-  pub grew : old.accepted ≤ new.accepted
-  pub over : old.state ≢ state.Active → new ≡ old
+-- it accepted what it held, until nothing was held or too many rows waited
+abbrev pub AcceptsAll : {S : Type 0} → Waits → Member S → Member S → Type 0
+AcceptsAll w m n = MemberAccepts m n × ((has_room w ≡ false) ⊎ HoldsNone n)
 
-abbrev pub MemberAccepts : {S : Type 0} → Member S → Member S → Type 0
-MemberAccepts {S} m n = MatchOption m.reader (n ≡ m) (λ r. (q : Reader S) × ((n ≡ record m { reader = Some q }) × ReaderAccepts r q))
+-- what became of a member that was to be read
+abbrev pub ReadsTo : {S M : Type 0} → Source S M → Select → Waits → StepEnd → Member S → Member S → Type 0
+ReadsTo source select w step_end.Moved m n = MovesOn source select m n w
+ReadsTo source select w step_end.Still m n = Stood source select m n
+ReadsTo source select w step_end.NoMemory m n = MemberGoesOn source m n
 
 -- turns of one member of an atom
 pub record ReadsAt {S M : Type 0} (source : Source S M) (Becomes : Member S → Member S → Type 0) (l k : LeafState S) (index : ℕ) (w v : Waits) (end : StepEnd) : Type 0 where
@@ -38,6 +37,8 @@ pub record ReadsAt {S M : Type 0} (source : Source S M) (Becomes : Member S → 
   pub select : k.collecting.select ≡ l.collecting.select
   pub members : BecomesAt Becomes index l.collecting.members k.collecting.members
   pub goes_on : v.put ≡ false
+  -- no row was taken
+  pub fuller : has_room w ≡ false → has_room v ≡ false
 
 -- ---- an edge
 

@@ -5,6 +5,7 @@ use Rattle.med_base.specs.declared.outside.source.Source.{Ghosts as Source}
 use Rattle.tuple_core.specs.Values.{RowList, RowValues}
 use Rattle.collect_core.specs.Members.{is_named}
 use Rattle.step_core.specs.Edges.{IsEmpty, SameWaits, TakesEnd, TakesFirst, Waits}
+use Rattle.step_core.specs.Going.{then}
 use Rattle.step_core.specs.Joins.{JoinTurn}
 use Rattle.step_core.specs.Leaves.{ClosesLeaf, Pulls}
 use Rattle.step_core.specs.Names.{has_actor, is_atom, is_called, join_turn}
@@ -89,17 +90,11 @@ NetSteps source x s t end =
     ((is_last_edge x s ≡ true) × ListActs s t end)
     ⊎ ((is_last_edge x s ≡ false) × (OperatorActs source x s t end ⊎ IsAbsent x s t end))
 
--- the end of more than one step, where an earlier one moved
-abbrev pub or_moved : StepEnd → StepEnd
-or_moved step_end.Moved = step_end.Moved
-or_moved step_end.Still = step_end.Moved
-or_moved step_end.NoMemory = step_end.NoMemory
-
 -- what follows a step: nothing after want of memory; else the rest, and it moved where one of them did
 abbrev pub GoesOn : {S : Type 0} → StepEnd → NetState S → NetState S → StepEnd → (NetState S → NetState S → StepEnd → Type 0) → Type 0
 GoesOn step_end.NoMemory s t end Rest = (t ≡ s) × (end ≡ step_end.NoMemory)
 GoesOn step_end.Still s t end Rest = Rest s t end
-GoesOn step_end.Moved s t end Rest = (last : StepEnd) × (Rest s t last × (end ≡ or_moved last))
+GoesOn step_end.Moved s t end Rest = (last : StepEnd) × (Rest s t last × (end ≡ then step_end.Moved last))
 
 -- Steps of actors, one after another: all of them, and then what the last part ended with, or up to the first want of memory.
 pub record StepsThen {S M : Type 0} (source : Source S M) (x : Actor) (s t : NetState S) (end : StepEnd) (Rest : NetState S → NetState S → StepEnd → Type 0) : Type 0 where

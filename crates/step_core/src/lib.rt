@@ -12,8 +12,8 @@
 //! 6. [`Net::into_parts`] gives the members' ends and the rows.
 //!
 //! Definitions: `specs/Nets.antt` says what a net is, and `specs/Edges.antt` what an edge is and promises;
-//! `specs/Standing.antt` that a net stands, which is its invariant; `specs/Planting.antt` and `Plans` what is made of a
-//! plan; `specs/Joins.antt` and `Leaves` what a join and an atom do in their turn, `specs/Names.antt` which of them an
+//! `specs/Standing.antt` that a net stands, which is its invariant, and `specs/Same.antt` that its operators are the same;
+//! `specs/Planting.antt` and `Plans` what is made of a plan; `specs/Joins.antt` and `Leaves` what a join and an atom do in their turn, `specs/Names.antt` which of them an
 //! actor means, and `specs/Steps.antt` what a step is; `specs/Going.antt` what many turns do, and `specs/Passes.antt` what
 //! a pass does, of the parts in `specs/Parts.antt`; `specs/Work.antt` what is left to do; `specs/Wholes.antt` what a
 //! finished net has given; `specs/Members.antt` how members get their sources. [`Net::stands`] has what holds of each net,

@@ -1,17 +1,16 @@
 //! The parts of a pass: each member is read, and then what waits goes on as far as it can.
 
-ghost use Rattle.std.specs.Prelude.{◌≡◌, ◌<◌, ◌≤◌, true, false, length, OnErr, OnOk};
+ghost use Rattle.std.specs.Prelude.{◌≡◌, ◌≢◌, ◌<◌, ◌≤◌, true, false, length, OnErr, OnOk};
 ghost use Rattle.std.specs.List.{AllZip};
 ghost use Rattle.tuple_core.specs.Values.{RowList};
-ghost use Rattle.collect_core.specs.Steps.{StepsMember};
-ghost use Rattle.collect_core.specs.declared.reader.Collected.TheVariants as collected;
-ghost use Rattle.step_core.specs.Edges.{IsEmpty};
+ghost use Rattle.step_core.specs.Edges.{IsEmpty, SameWaits};
 ghost use Rattle.step_core.specs.Going.{Goes};
 ghost use Rattle.step_core.specs.Joins.{MayTake};
 ghost use Rattle.step_core.specs.Members.{members_of};
 ghost use Rattle.step_core.specs.Nets.{leaf};
-ghost use Rattle.step_core.specs.Parts.{MemberAccepts, ReadsAt, TakesWhile};
-ghost use Rattle.step_core.specs.Passes.{AreSettledIn, IsQuiet, LeafIdles, MemberGoesOn, NetIsQuiet, TreeIdles, has_room};
+ghost use Rattle.step_core.specs.Parts.{AcceptsAll, ReadsAt, ReadsTo, TakesWhile};
+ghost use Rattle.step_core.specs.Passes.{AreSettledIn, IsQuiet, MemberAccepts, MemberGoesOn, NetIsQuiet, TreeIdles, TreeReads, has_room};
+ghost use Rattle.step_core.specs.Same.{SameOperators};
 ghost use Rattle.step_core.specs.Standing.{NetStands, Stands};
 ghost use Rattle.step_core.specs.Viewed.{tree_of};
 ghost use Rattle.step_core.specs.Work.{Falls, net_left};
@@ -31,11 +30,14 @@ impl<S: Source> Net<S> {
     /// The members have a turn each, from left to right: of each active one the source is pulled once at most, and the
     /// rows that it holds then are accepted while fewer than 1,024 wait on its atom's edge. An atom on whose edge so many
     /// wait is held back. It stands still where the source of each active member that wasn't held back answered that
-    /// nothing is there yet.
+    /// nothing is there yet; where nothing was to do but for members before, nothing is then.
     pub fn read_members(&mut self, alloc: Global) -> StepEnd
         ensures stands { NetStands S.Source self.new }
+        ensures operators { SameOperators self.old.tree self.new.tree }
         ensures members { AllZip (MemberGoesOn S.Source) (members_of self.old.tree) (members_of self.new.tree) }
-        ensures idle { result ≡ step_end.Still → TreeIdles S.Source self.old.tree self.new.tree self.old.edge }
+        ensures reads { result ≢ step_end.NoMemory → TreeReads S.Source self.old.tree self.new.tree self.old.edge self.new.edge }
+        ensures idle { result ≡ step_end.Still → TreeIdles S.Source self.old.tree self.new.tree self.old.edge self.new.edge }
+        ensures quiet { result ≡ step_end.Still → NetIsQuiet self.old → NetIsQuiet self.new }
         ensures rows { self.new.rows ≡ self.old.rows }
         ensures falls { Falls result (net_left S.Source self.old) (net_left S.Source self.new) }
     {
@@ -44,20 +46,22 @@ impl<S: Source> Net<S> {
 
     /// All that waits goes on: each operator takes what waits for it while fewer than 1,024 of its own rows do, and says
     /// that no more rows will come where all were given; the rows of the last edge are taken. So it goes on up to where
-    /// nothing is to do but for members. Where memory runs out the net stands, and the call may be made again.
-    pub fn drain(&mut self, alloc: Global) -> Result<(), AllocError>
+    /// nothing is to do but for members. Where memory runs out the net stands.
+    pub fn drain(&mut self, alloc: Global) -> StepEnd
         ensures stands { NetStands S.Source self.new }
+        ensures operators { SameOperators self.old.tree self.new.tree }
         ensures members { members_of self.new.tree ≡ members_of self.old.tree }
-        ensures quiet { OnOk result (NetIsQuiet self.new) }
-        ensures finished { OnOk result (AreSettledIn self.new.tree → self.new.edge.taken ≡ true) }
-        ensures falls { OnOk result (net_left S.Source self.new ≤ net_left S.Source self.old) }
+        ensures quiet { result ≢ step_end.NoMemory → NetIsQuiet self.new }
+        ensures finished { result ≢ step_end.NoMemory → AreSettledIn self.new.tree → self.new.edge.taken ≡ true }
+        ensures falls { Falls result (net_left S.Source self.old) (net_left S.Source self.new) }
     {
         self.stands();
+        let mut end = StepEnd::Still;
         loop {
             match self.sweep(alloc) {
-                StepEnd::Moved => {}
-                StepEnd::Still => return Ok(()),
-                StepEnd::NoMemory => return Err(AllocError),
+                StepEnd::Moved => end = StepEnd::Moved,
+                StepEnd::Still => return end,
+                StepEnd::NoMemory => return StepEnd::NoMemory,
             }
         }
     }
@@ -65,6 +69,7 @@ impl<S: Source> Net<S> {
     // Once from the atoms to the list. Where nothing moved, nothing is to do.
     fn sweep(&mut self, alloc: Global) -> StepEnd
         ensures stands { NetStands S.Source self.new }
+        ensures operators { SameOperators self.old.tree self.new.tree }
         ensures members { members_of self.new.tree ≡ members_of self.old.tree }
         ensures quiet { result ≡ step_end.Still → NetIsQuiet self.new }
         ensures falls { Falls result (net_left S.Source self.old) (net_left S.Source self.new) }
@@ -97,7 +102,8 @@ impl<S: Source> Node<S> {
     fn read(&mut self, alloc: Global, out: &mut Edge) -> StepEnd
         ensures goes { Goes S.Source result (tree_of self.old) (tree_of self.new) out.old out.new }
         ensures members { AllZip (MemberGoesOn S.Source) (members_of (tree_of self.old)) (members_of (tree_of self.new)) }
-        ensures idle { result ≡ step_end.Still → TreeIdles S.Source (tree_of self.old) (tree_of self.new) out.old }
+        ensures reads { result ≢ step_end.NoMemory → TreeReads S.Source (tree_of self.old) (tree_of self.new) out.old out.new }
+        ensures idle { result ≡ step_end.Still → TreeIdles S.Source (tree_of self.old) (tree_of self.new) out.old out.new }
     {
         match self {
             Node::Leaf(leaf) => leaf.read(alloc, out),
@@ -141,7 +147,8 @@ impl<S: Source> LeafNode<S> {
     fn read(&mut self, alloc: Global, out: &mut Edge) -> StepEnd
         ensures goes { Goes S.Source result (leaf self.old) (leaf self.new) out.old out.new }
         ensures members { AllZip (MemberGoesOn S.Source) self.old.collecting.members self.new.collecting.members }
-        ensures idle { result ≡ step_end.Still → LeafIdles S.Source self.old self.new out.old }
+        ensures reads { result ≢ step_end.NoMemory → TreeReads S.Source (leaf self.old) (leaf self.new) out.old out.new }
+        ensures idle { result ≡ step_end.Still → TreeIdles S.Source (leaf self.old) (leaf self.new) out.old out.new }
     {
         if out.closed() {
             return StepEnd::Still;
@@ -164,11 +171,13 @@ impl<S: Source> LeafNode<S> {
     fn read_member(&mut self, alloc: Global, index: usize, out: &mut Edge) -> StepEnd
         requires inside { index < length self.old.collecting.members }
         requires goes_on { out.old.put ≡ false }
-        ensures { ReadsAt S.Source (λ m n. MemberGoesOn S.Source m n × (result ≡ step_end.Still → StepsMember S.Source self.old.collecting.select m n collected.Still)) self.old self.new index out.old out.new result }
+        ensures reads { ReadsAt S.Source (ReadsTo S.Source self.old.collecting.select out.new result) self.old self.new index out.old out.new result }
+        ensures still { result ≡ step_end.Still → SameWaits out.old out.new }
     {
         match self.pull(alloc, index, out) {
             StepEnd::Moved => {}
-            end => return end,
+            StepEnd::Still => return StepEnd::Still,
+            StepEnd::NoMemory => return StepEnd::NoMemory,
         }
         match self.accept_all(alloc, index, out) {
             Ok(()) => StepEnd::Moved,
@@ -176,11 +185,11 @@ impl<S: Source> LeafNode<S> {
         }
     }
 
-    // The rows that a member holds are accepted, while few wait.
+    // The rows that a member holds are accepted, while few wait on the edge.
     fn accept_all(&mut self, alloc: Global, index: usize, out: &mut Edge) -> Result<(), AllocError>
         requires inside { index < length self.old.collecting.members }
         requires goes_on { out.old.put ≡ false }
-        ensures ok { OnOk result (ReadsAt S.Source MemberAccepts self.old self.new index out.old out.new step_end.Still) }
+        ensures ok { OnOk result (ReadsAt S.Source (AcceptsAll out.new) self.old self.new index out.old out.new step_end.Still) }
         ensures err { OnErr result (ReadsAt S.Source MemberAccepts self.old self.new index out.old out.new step_end.NoMemory) }
     {
         while out.has_room() {

@@ -1,5 +1,6 @@
-use Rattle.step_core.proofs.Leafing.{held_less, reads_inside, reads_more, reads_none, reads_still}
-use Rattle.step_core.specs.Parts.{MemberAccepts}
+use Rattle.std.proofs.Common.{sym, ◌∙◌}
+use Rattle.step_core.proofs.Leafing.{held_less, reads_all, reads_full, reads_inside, reads_more, reads_none, reads_still}
+use Rattle.step_core.specs.Passes.{MemberAccepts}
 use Rattle.step_core.specs.declared.actor.StepEnd.TheVariants as step_end
 use Rattle.step_core.proofs.leaf_node.LeafNode.accept_all.Goals as goal
 
@@ -17,7 +18,10 @@ loop-alloc-preserved g c = reads_still g.S.Source MemberAccepts c.args.self.now 
     (reads_more g.S.Source c.args.self.now c.loop-alloc.self c.accept.new.self c.args.index c.args.out.now c.loop-alloc.out c.accept.new.out step_end.Moved c.loop-alloc.invariant c.requires.inside c.in-Moved.ensures)
 
 pub returns-in-Still-clause-ok : goal.returns-in-Still-clause-ok
-returns-in-Still-clause-ok g c = reads_more g.S.Source c.args.self.now c.loop-alloc.self c.accept.new.self c.args.index c.args.out.now c.loop-alloc.out c.accept.new.out step_end.Still c.loop-alloc.invariant c.requires.inside c.in-Still.ensures
+returns-in-Still-clause-ok g c = reads_all g.S.Source c.args.self.now c.loop-alloc.self c.accept.new.self c.args.index c.args.out.now c.loop-alloc.out c.accept.new.out c.loop-alloc.invariant c.requires.inside c.in-Still.ensures
+
+pub returns-clause-ok : goal.returns-clause-ok
+returns-clause-ok g c = reads_full g.S.Source c.args.self.now c.loop-alloc.self c.args.index c.args.out.now c.loop-alloc.out c.loop-alloc.invariant (sym c.has_room.ensures ∙ c.loop-alloc-test.false)
 
 pub returns-in-NoMemory-clause-err : goal.returns-in-NoMemory-clause-err
 returns-in-NoMemory-clause-err g c = reads_more g.S.Source c.args.self.now c.loop-alloc.self c.accept.new.self c.args.index c.args.out.now c.loop-alloc.out c.accept.new.out step_end.NoMemory c.loop-alloc.invariant c.requires.inside c.in-NoMemory.ensures

@@ -1,5 +1,6 @@
 use Rattle.collect_core.specs.Collecting.{work_left}
-use Rattle.step_core.specs.Parts.{MemberAccepts, ReadsAt}
+use Rattle.step_core.specs.Parts.{ReadsAt}
+use Rattle.step_core.specs.Passes.{MemberAccepts}
 use Rattle.step_core.specs.declared.actor.StepEnd.TheVariants as step_end
 use Rattle.step_core.proofs.leaf_node.LeafNode.accept_all.Given as goal
 
