@@ -11,16 +11,123 @@ use std::alloc::Global;
 use std::test::Fail;
 use tuple_core::{Column, Columns, EncodedRow, Kind, Text, ValueRef, Words};
 
-/// The rows over x, y, z and w of r(x, y), s(y, z), t(z, w).
-const WANTED: [[i64; 4]; 7] = [
-    [1, 10, 100, 7],
-    [1, 10, 100, 9],
-    [1, 10, 300, 7],
-    [2, 20, 200, 8],
-    [3, 10, 100, 7],
-    [3, 10, 100, 9],
-    [3, 10, 300, 7],
-];
+/// The source of an atom, whose columns are a, of integers, and b. Its variables are the atom's number and the next.
+struct Data {
+    atom: u32,
+    location: &'static str,
+    text: &'static [u8],
+    second: Kind,
+}
+
+/// The sources of a net's atoms, and the rows that it gives, over its variables. A text of one letter stands here as
+/// the letter's number.
+struct Case {
+    atoms: &'static [Data],
+    wanted: &'static [&'static [i64]],
+}
+
+/// r(x, y), s(y, z), t(z, w).
+const CHAIN: Case = Case {
+    atoms: &[
+        Data {
+            atom: 1,
+            location: "r",
+            text: b"a,b\n1,10\n2,20\n3,10\n",
+            second: Kind::Int,
+        },
+        Data {
+            atom: 2,
+            location: "s",
+            text: b"a,b\n10,100\n20,200\n10,300\n",
+            second: Kind::Int,
+        },
+        Data {
+            atom: 3,
+            location: "t",
+            text: b"a,b\n100,7\n200,8\n100,9\n300,7\n",
+            second: Kind::Int,
+        },
+    ],
+    wanted: &[
+        &[1, 10, 100, 7],
+        &[1, 10, 100, 9],
+        &[1, 10, 300, 7],
+        &[2, 20, 200, 8],
+        &[3, 10, 100, 7],
+        &[3, 10, 100, 9],
+        &[3, 10, 300, 7],
+    ],
+};
+
+/// r(x, y), s(y, z), where z is a text.
+const TEXTS: Case = Case {
+    atoms: &[
+        Data {
+            atom: 1,
+            location: "r",
+            text: b"a,b\n1,10\n2,20\n3,30\n",
+            second: Kind::Int,
+        },
+        Data {
+            atom: 2,
+            location: "s",
+            text: b"a,b\n20,b\n30,c\n40,d\n",
+            second: Kind::Text,
+        },
+    ],
+    wanted: &[&[2, 20, 98], &[3, 30, 99]],
+};
+
+/// e(x, y), e(y, z): two sources of one location.
+const ITSELF: Case = Case {
+    atoms: &[
+        Data {
+            atom: 1,
+            location: "e",
+            text: b"a,b\n1,2\n2,3\n2,4\n3,4\n",
+            second: Kind::Int,
+        },
+        Data {
+            atom: 2,
+            location: "e",
+            text: b"a,b\n1,2\n2,3\n2,4\n3,4\n",
+            second: Kind::Int,
+        },
+    ],
+    wanted: &[&[1, 2, 3], &[1, 2, 4], &[2, 3, 4]],
+};
+
+/// a(x, u), b(y, v), which share no variable.
+const PRODUCT: Case = Case {
+    atoms: &[
+        Data {
+            atom: 1,
+            location: "a",
+            text: b"a,b\n1,0\n2,0\n3,0\n",
+            second: Kind::Int,
+        },
+        Data {
+            atom: 3,
+            location: "b",
+            text: b"a,b\n4,0\n5,0\n6,0\n7,0\n",
+            second: Kind::Int,
+        },
+    ],
+    wanted: &[
+        &[1, 0, 4, 0],
+        &[1, 0, 5, 0],
+        &[1, 0, 6, 0],
+        &[1, 0, 7, 0],
+        &[2, 0, 4, 0],
+        &[2, 0, 5, 0],
+        &[2, 0, 6, 0],
+        &[2, 0, 7, 0],
+        &[3, 0, 4, 0],
+        &[3, 0, 5, 0],
+        &[3, 0, 6, 0],
+        &[3, 0, 7, 0],
+    ],
+};
 
 /// In which order steps are made.
 #[derive(Clone, Copy)]
@@ -33,29 +140,28 @@ enum Order {
     Mixed,
 }
 
-fn location(atom: u32) -> &'static str {
-    match atom {
-        1 => "r",
-        2 => "s",
-        _ => "t",
-    }
-}
-
-fn column(alloc: Global, name: &str) -> Result<Column, Fail> {
+fn column(alloc: Global, name: &str, kind: Kind) -> Result<Column, Fail> {
     Ok(Column {
         name: Text::from_str(alloc, name)?,
-        kind: Kind::Int,
+        kind,
     })
 }
 
-// Two columns, whose variables are the atom's number and the next.
-fn atom(alloc: Global, atom: u32) -> Result<NetAtom, Fail>
-    requires { atom < 63 }
+// No number from 63 on, so that each variable has one.
+fn atom_of(data: &Data) -> u32
+    ensures { result < 63 }
+{
+    data.atom % 63
+}
+
+fn atom(alloc: Global, data: &Data) -> Result<NetAtom, Fail>
     ensures { IfOk result FitsAtom }
 {
+    let atom = atom_of(data);
     let terms = vec![in alloc; Term::Variable(atom), Term::Variable(atom + 1)]?;
-    let columns = vec![in alloc; column(alloc, "a")?, column(alloc, "b")?]?;
-    let mirrors = Words::from_vec(vec![in alloc; Text::from_str(alloc, location(atom))?]?);
+    let first = column(alloc, "a", Kind::Int)?;
+    let columns = vec![in alloc; first, column(alloc, "b", data.second)?]?;
+    let mirrors = Words::from_vec(vec![in alloc; Text::from_str(alloc, data.location)?]?);
     Ok(NetAtom {
         atom,
         columns: Columns::from_vec(columns),
@@ -65,10 +171,9 @@ fn atom(alloc: Global, atom: u32) -> Result<NetAtom, Fail>
     })
 }
 
-fn leaf(alloc: Global, number: u32) -> Result<FreshTree<MemSource>, Fail>
-    requires { number < 63 }
-{
-    let tree = FreshTree::atom(alloc, atom(alloc, number)?)?;
+fn leaf(alloc: Global, case: &Case, index: usize) -> Result<FreshTree<MemSource>, Fail> {
+    let data = case.atoms.get(index).ok_or("no such atom")?;
+    let tree = FreshTree::atom(alloc, atom(alloc, data)?)?;
     Ok(tree)
 }
 
@@ -87,46 +192,51 @@ fn joined(
     Ok(tree)
 }
 
-// The first join, of this atom and the next.
-fn pair(alloc: Global, atom: u32) -> Result<FreshTree<MemSource>, Fail>
-    requires { atom < 62 }
-{
-    let left = leaf(alloc, atom)?;
-    let right = leaf(alloc, atom + 1)?;
-    joined(alloc, 1, left, right)
-}
-
-fn tree(alloc: Global, deep_right: bool) -> Result<FreshTree<MemSource>, Fail> {
-    if deep_right {
-        let left = leaf(alloc, 1)?;
-        let right = pair(alloc, 2)?;
-        joined(alloc, 2, left, right)
+fn tree(alloc: Global, case: &Case, deep_right: bool) -> Result<FreshTree<MemSource>, Fail> {
+    let count = case.atoms.len();
+    let at = if deep_right {
+        count.saturating_sub(2)
     } else {
-        let left = pair(alloc, 1)?;
-        let right = leaf(alloc, 3)?;
-        joined(alloc, 2, left, right)
+        0
+    };
+    let left = leaf(alloc, case, at)?;
+    let right = leaf(alloc, case, at + 1)?;
+    let pair = joined(alloc, 1, left, right)?;
+    if count == 2 {
+        return Ok(pair);
+    }
+    if deep_right {
+        let left = leaf(alloc, case, 0)?;
+        joined(alloc, 2, left, pair)
+    } else {
+        let right = leaf(alloc, case, 2)?;
+        joined(alloc, 2, pair, right)
     }
 }
 
 // A few bytes a pull, with nothing there before some.
-fn site(alloc: Global, atom: u32, text: &[u8], size: usize) -> Result<Site, Fail> {
+fn site(alloc: Global, data: &Data, size: usize) -> Result<Site, Fail> {
     let script = Script {
         turns: vec![in alloc; Turn::NotYet, Turn::Give(size), Turn::NotYet]?,
         then: Turn::Give(size),
     };
     Ok(Site {
-        location: Text::from_str(alloc, location(atom))?,
-        text: Vec::from_slice(alloc, text)?,
+        location: Text::from_str(alloc, data.location)?,
+        text: Vec::from_slice(alloc, data.text)?,
         script,
     })
 }
 
-fn opener(alloc: Global) -> Result<MemOpener, Fail> {
-    let sites = vec![in alloc;
-        site(alloc, 1, b"a,b\n1,10\n2,20\n3,10\n", 3)?,
-        site(alloc, 2, b"a,b\n10,100\n20,200\n10,300\n", 7)?,
-        site(alloc, 3, b"a,b\n100,7\n200,8\n100,9\n300,7\n", 50)?,
-    ]?;
+fn opener(alloc: Global, case: &Case) -> Result<MemOpener, Fail> {
+    let mut sites = Vec::new(alloc);
+    for (index, data) in case.atoms.iter().enumerate() {
+        let size = match index {
+            0 => 3,
+            1 => 7,
+            _ => 50,
+        };
+        sites.push(site(alloc, data, size)?)?;
+    }
     Ok(MemOpener::new(alloc, sites, Vec::new(alloc)))
 }
 
@@ -205,18 +315,19 @@ fn run(alloc: Global, net: &mut Net<MemSource>, order: Order) -> Result<(), Fail
     }
 }
 
-fn is(row: &EncodedRow<'_>, wanted: &[i64; 4]) -> bool {
+fn is(row: &EncodedRow<'_>, wanted: &[i64]) -> bool {
     let mut values = row.values();
     for number in wanted {
         match values.next() {
             Some(ValueRef::Int(value)) if value == *number => {}
+            Some(ValueRef::Text(text)) if text.iter().all(|byte| i64::from(*byte) == *number) => {}
             _ => return false,
         }
     }
     values.next().is_none()
 }
 
-fn has(rows: &Rows, wanted: &[i64; 4]) -> bool {
+fn has(rows: &Rows, wanted: &[i64]) -> bool {
     for row in rows.iter() {
         if is(&row, wanted) {
             return true;
@@ -225,36 +336,67 @@ fn has(rows: &Rows, wanted: &[i64; 4]) -> bool {
     false
 }
 
-fn are_wanted(rows: &Rows) -> bool {
-    rows.len() == WANTED.len() && WANTED.iter().all(|wanted| has(rows, wanted))
+fn are_wanted(rows: &Rows, case: &Case) -> bool {
+    rows.len() == case.wanted.len() && case.wanted.iter().all(|wanted| has(rows, wanted))
 }
 
-fn net(alloc: Global, deep_right: bool) -> Result<Net<MemSource>, Fail> {
-    let mut net = Net::over(alloc, tree(alloc, deep_right)?);
-    let mut opener = opener(alloc)?;
-    for atom in 1..4 {
-        open(alloc, &mut net, &mut opener, member(atom))?;
+fn net(alloc: Global, case: &Case, deep_right: bool) -> Result<Net<MemSource>, Fail> {
+    let mut net = Net::over(alloc, tree(alloc, case, deep_right)?);
+    let mut opener = opener(alloc, case)?;
+    for data in case.atoms {
+        open(alloc, &mut net, &mut opener, member(atom_of(data)))?;
     }
     Ok(net)
 }
 
-// Whether the net has the rows by hand once these steps were made, and whether it has finished.
-fn ends(alloc: Global, deep_right: bool, order: Order) -> Result<(bool, bool), Fail> {
-    let mut net = net(alloc, deep_right)?;
+// Whether the net has finished once these steps were made, and whether it has the rows by hand in the end.
+fn ends(alloc: Global, case: &Case, deep_right: bool, order: Order) -> Result<(bool, bool), Fail> {
+    let mut net = net(alloc, case, deep_right)?;
     run(alloc, &mut net, order)?;
     let early = net.finished();
     run(alloc, &mut net, Order::Forward)?;
-    Ok((early, net.finished() && are_wanted(net.rows())))
+    let wanted = are_wanted(net.rows(), case);
+    Ok((early, net.finished() && wanted))
 }
 
 #[test]
 fn gives_the_same_rows_in_any_order_of_steps(rt: HostRuntime) -> Result<(), Fail> {
     let alloc = rt.alloc();
-    for deep_right in [false, true] {
-        assert_eq!(rt; ends(alloc, deep_right, Order::Forward)?, (true, true));
-        assert_eq!(rt; ends(alloc, deep_right, Order::Backward)?, (true, true));
-        assert_eq!(rt; ends(alloc, deep_right, Order::Mixed)?, (true, true));
-        assert_eq!(rt; ends(alloc, deep_right, Order::Unclosed)?, (false, true));
+    let orders = [
+        (Order::Forward, true),
+        (Order::Backward, true),
+        (Order::Mixed, true),
+        (Order::Unclosed, false),
+    ];
+    for (order, early) in orders {
+        for case in [&TEXTS, &ITSELF, &PRODUCT, &CHAIN] {
+            assert_eq!(rt; ends(alloc, case, false, order)?, (early, true));
+        }
+        assert_eq!(rt; ends(alloc, &CHAIN, true, order)?, (early, true));
     }
+    Ok(())
+}
+
+// A hundred passes, of which the last ones do nothing.
+fn passes(alloc: Global, case: &Case, deep_right: bool) -> Result<(bool, bool), Fail> {
+    let mut net = net(alloc, case, deep_right)?;
+    let mut last = (StepEnd::Moved, StepEnd::Moved);
+    for _ in 0..100 {
+        last = (net.read_members(alloc), net.drain(alloc));
+    }
+    let wanted = are_wanted(net.rows(), case);
+    Ok((
+        last == (StepEnd::Still, StepEnd::Still),
+        net.finished() && wanted,
+    ))
+}
+
+#[test]
+fn passes_give_the_same_rows(rt: HostRuntime) -> Result<(), Fail> {
+    let alloc = rt.alloc();
+    for case in [&TEXTS, &ITSELF, &PRODUCT, &CHAIN] {
+        assert_eq!(rt; passes(alloc, case, false)?, (true, true));
+    }
+    assert_eq!(rt; passes(alloc, &CHAIN, true)?, (true, true));
     Ok(())
 }
