@@ -1,0 +1,2 @@
+pub mod Drying
+pub mod Running
